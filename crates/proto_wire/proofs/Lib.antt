@@ -1,0 +1,10 @@
+pub mod Bounds
+pub mod Steps
+pub mod Varints
+pub mod Shrinks
+pub mod Loop
+pub mod Finds
+pub mod Found
+pub mod Again
+pub mod Spelled
+pub mod WireLaws

@@ -1,0 +1,5 @@
+pub mod Text
+pub mod Field
+pub mod Wire
+pub mod Reading
+pub mod Spelling

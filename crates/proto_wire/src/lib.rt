@@ -1,0 +1,27 @@
+//! The Protocol Buffers wire form: bytes become fields, and fields become bytes. It knows no message:
+//! the crates above say what the fields of each message mean.
+#![tactic(auto)]
+
+mod bytes;
+mod fault;
+mod field;
+mod find;
+pub mod laws;
+mod memory;
+mod name;
+mod read;
+mod utf8;
+mod write;
+
+pub use bytes::Bytes;
+pub use fault::WireError;
+pub use field::{Field, Fields, Value};
+pub use find::{contents, joined, last_bytes, last_int, text};
+pub use memory::OutOfMemory;
+pub use name::Name;
+pub use read::fields;
+pub use utf8::Text;
+pub use write::Writer;
+
+#[cfg(test)]
+mod tests;
