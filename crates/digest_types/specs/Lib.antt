@@ -1,0 +1,5 @@
+pub mod Name
+pub mod Digest
+pub mod Hasher
+pub mod Hex
+pub mod Reading

@@ -1,0 +1,49 @@
+//! `Hasher`.
+
+ghost use Rattle.std.specs.Prelude.{◌≡◌, ◌≤◌, ◌+◌, ◌^◌, ◌++◌, ℕ, List, [], length};
+ghost use Rattle.digest_types.specs.Digest.{digest_of};
+ghost use Rattle.digest_types.specs.Hasher.{Holds, added_len};
+
+use crate::digest::Digest;
+use sha2::{Digest as _, Sha256};
+
+/// Makes a digest of bytes that come piece by piece, at most 2^60 in all. It takes no memory.
+#[derive(Drop)]
+pub struct Hasher {
+    inner: Sha256,
+    size: u64,
+}
+
+impl Hasher {
+    /// Nothing was added yet.
+    pub fn new() -> Hasher
+        ensures { Holds result [] }
+    {
+        Hasher {
+            inner: Sha256::new(),
+            size: 0,
+        }
+    }
+
+    /// Adds the next piece.
+    pub fn update(&mut self, bytes: &[u8])
+        requires { added_len self.old + length bytes.now ≤ 2 ^ 60 }
+        ensures { (before : List ℕ) → Holds self.old before → Holds self.new (before ++ bytes.now) }
+    {
+        self.inner.update(bytes);
+        self.size += bytes.len() as u64;
+    }
+
+    /// The digest of all that was added.
+    #[tactic(auto, unfolding(crate::specs::Digest::digest_of))]
+    pub fn finish(self) -> Digest
+        requires { added_len self ≤ 2 ^ 60 }
+        ensures { (bytes : List ℕ) → Holds self bytes → result ≡ digest_of bytes }
+    {
+        let Hasher { inner, size } = self;
+        Digest {
+            hash: inner.finalize(),
+            size,
+        }
+    }
+}

@@ -1,0 +1,44 @@
+//! The message of a digest.
+
+ghost use Rattle.std.specs.Prelude.{◌≡◌, IfOk};
+ghost use Rattle.digest_types.specs.Digest.{spelled};
+ghost use Rattle.digest_types.specs.Reading.{digest_in, Gives};
+
+use crate::digest::Digest;
+use crate::error::DigestError;
+use crate::lower_hex::hash_in;
+use proto_wire::{Bytes, OutOfMemory, Writer, fields, last_bytes, last_int};
+use std::alloc::Global;
+
+impl Digest {
+    /// The digest that the content of a Digest message spells: field 1 is the hash in lower-case hex,
+    /// field 2 the size.
+    #[tactic(auto, unfolding(crate::specs::Reading::digest_in))]
+    pub fn read(alloc: Global, bytes: &[u8]) -> Result<Digest, DigestError>
+        ensures { Gives (λ d. d) result (digest_in bytes.now) }
+    {
+        let fields = fields(alloc, bytes)?;
+        let Some(hash) = hash_in(last_bytes(&fields, 1).unwrap_or(&[])) else {
+            return Err(DigestError::BadHash);
+        };
+        let size = last_int(&fields, 2).unwrap_or(0);
+        if size >= 1 << 63 {
+            return Err(DigestError::NegativeSize);
+        }
+        Ok(Digest { hash, size })
+    }
+
+    /// The canonical content of its message.
+    pub fn write(&self, alloc: Global) -> Result<Bytes, OutOfMemory>
+        ensures { IfOk result (λ b. b ≡ spelled self.now) }
+    {
+        let mut hash = [0u8; 64];
+        let _ = hex::encode_to_slice(&self.hash, &mut hash);
+        let mut out = Writer::new(alloc);
+        out.bytes(1, &hash)?;
+        if self.size != 0 {
+            out.int(2, self.size)?;
+        }
+        Ok(out.finish())
+    }
+}

@@ -1,0 +1,140 @@
+use super::*;
+use proto_wire::WireError;
+use std::alloc::Global;
+use std::test::*;
+
+const ABC: &[u8] = b"ba7816bf8f01cfea414140de5dae2223b00361a396177a9cb410ff61f20015ad/3";
+
+const EMPTY: &[u8] = b"e3b0c44298fc1c149afbf4c8996fb92427ae41e4649b934ca495991b7852b855/0";
+
+/// The message of the digest of "abc".
+const MESSAGE: &[u8] =
+    b"\x0a\x40ba7816bf8f01cfea414140de5dae2223b00361a396177a9cb410ff61f20015ad\x10\x03";
+
+/// The message of the digest of no bytes, which leaves the size out.
+const EMPTY_MESSAGE: &[u8] =
+    b"\x0a\x40e3b0c44298fc1c149afbf4c8996fb92427ae41e4649b934ca495991b7852b855";
+
+#[test]
+fn a_digest_is_the_hash_and_the_size(rt: HostRuntime) -> Result<(), Fail> {
+    let mut hasher = Hasher::new();
+    hasher.update(b"a");
+    hasher.update(b"");
+    hasher.update(b"bc");
+    let cases: [(Digest, &[u8], &[u8]); 4] = [
+        (Digest::of(b""), EMPTY, EMPTY_MESSAGE),
+        (Digest::empty(), EMPTY, EMPTY_MESSAGE),
+        (Digest::of(b"abc"), ABC, MESSAGE),
+        (hasher.finish(), ABC, MESSAGE),
+    ];
+    for (digest, printed, message) in cases {
+        let text = digest.print(rt.alloc()).ok().ok_or("memory")?;
+        assert_eq!(rt; text.as_str().as_bytes(), printed);
+        let written = digest.write(rt.alloc()).ok().ok_or("memory")?;
+        assert_eq!(rt; written.as_slice(), message, "{printed:?}");
+        assert_eq!(rt;
+            Digest::read(rt.alloc(), message),
+            Ok(digest),
+            "{printed:?}"
+        );
+    }
+    Ok(())
+}
+
+// A message of these bytes one after the other.
+fn message_of(alloc: Global, parts: [&[u8]; 4]) -> Result<Vec<u8>, Fail> {
+    let mut message = Vec::new(alloc);
+    for part in parts {
+        message.extend_from_slice(part)?;
+    }
+    Ok(message)
+}
+
+#[test]
+fn a_message_is_read_or_refused(rt: HostRuntime) -> Result<(), Fail> {
+    // field 1 with 64 bytes, and the hash of "abc"
+    let tag = b"\x0a\x40".as_slice();
+    let hash = b"ba7816bf8f01cfea414140de5dae2223b00361a396177a9cb410ff61f20015ad".as_slice();
+    let upper = b"BA7816BF8F01CFEA414140DE5DAE2223B00361A396177A9CB410FF61F20015AD".as_slice();
+    let below_zero = b"\x10\xff\xff\xff\xff\xff\xff\xff\xff\xff\x01".as_slice();
+    let none = b"".as_slice();
+    let digest = Digest::of(b"abc");
+    let sum = digest.hash;
+    let largest = Digest {
+        hash: sum,
+        size: 0x7fff_ffff_ffff_ffff,
+    };
+    let short = &hash[..63];
+    let cases: [([&[u8]; 4], Result<Digest, DigestError>); 16] = [
+        ([tag, hash, b"\x10\x03", none], Ok(digest)),
+        // The size comes first, and in more bytes than it needs.
+        ([b"\x10\x83\x00", tag, hash, none], Ok(digest)),
+        // A field that digests don't have.
+        ([b"\x78\x01", tag, hash, b"\x10\x03"], Ok(digest)),
+        // The last hash counts, and the last size.
+        ([b"\x0a\x01a\x10\x05", tag, hash, b"\x10\x03"], Ok(digest)),
+        (
+            [tag, hash, b"\x10\x03", b"\x0a\x01a"],
+            Err(DigestError::BadHash),
+        ),
+        ([tag, upper, b"\x10\x03", none], Err(DigestError::BadHash)),
+        (
+            [b"\x0a\x3f", short, b"\x10\x03", none],
+            Err(DigestError::BadHash),
+        ),
+        (
+            [b"\x0a\x41", hash, b"a", b"\x10\x03"],
+            Err(DigestError::BadHash),
+        ),
+        ([none, none, none, none], Err(DigestError::BadHash)),
+        ([b"\x10\x03", none, none, none], Err(DigestError::BadHash)),
+        (
+            [tag, hash, below_zero, none],
+            Err(DigestError::NegativeSize),
+        ),
+        ([tag, upper, below_zero, none], Err(DigestError::BadHash)),
+        (
+            [tag, hash, b"\x10\xff\xff\xff\xff\xff\xff\xff\xff\x7f", none],
+            Ok(largest),
+        ),
+        (
+            [tag, short, none, none],
+            Err(DigestError::Wire(WireError::Truncated { at: 0 })),
+        ),
+        (
+            [tag, hash, b"\x10", none],
+            Err(DigestError::Wire(WireError::Truncated { at: 66 })),
+        ),
+        (
+            [tag, upper, b"\x0b", none],
+            Err(DigestError::Wire(WireError::Group { at: 66 })),
+        ),
+    ];
+    for (parts, wanted) in cases {
+        let message = message_of(rt.alloc(), parts)?;
+        let read = Digest::read(rt.alloc(), message.as_slice());
+        assert_eq!(rt; read, wanted, "{parts:?}");
+    }
+    Ok(())
+}
+
+#[test]
+fn hex_text_is_in_lower_case(rt: HostRuntime) -> Result<(), Fail> {
+    let cases: [(&[u8], Option<&[u8]>); 6] = [
+        (b"0aff", Some(b"\x0a\xff")),
+        (b"", Some(b"")),
+        (b"0AFF", None),
+        (b"0", None),
+        (b"0g", None),
+        (b"0a ", None),
+    ];
+    for (text, wanted) in cases {
+        let read = unhex(rt.alloc(), text).ok().ok_or("memory")?;
+        assert_eq!(rt;
+            read.as_ref().map(|bytes| bytes.as_slice()),
+            wanted,
+            "{text:?}"
+        );
+    }
+    Ok(())
+}
