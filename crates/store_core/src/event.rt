@@ -1,0 +1,33 @@
+//! What happens to the store, and what it replies.
+
+use digest_types::Digest;
+
+/// What an owner asks of the store.
+#[derive(Debug, Drop)]
+pub enum Event {
+    /// A new owner comes.
+    Open,
+    /// A blob whose bytes were checked against its digest.
+    Put { digest: Digest },
+    /// The owner goes.
+    Close,
+}
+
+/// What the store replies.
+#[derive(Debug, PartialEq, Drop)]
+pub enum Reply {
+    /// The owner has this number.
+    Opened { owner: u64 },
+    /// The blob has a row now. So many rows were removed for it, and so many bytes are used.
+    Stored { removed: u64, used: u64 },
+    /// The blob was there.
+    Present,
+    /// The blob's row was unsound, and is sound again.
+    Repaired,
+    /// The guarded bytes and the blob are more than the high mark.
+    NoSpace { guarded: u64, size: u64, high: u64 },
+    /// The owner is gone.
+    Closed,
+    /// No such owner is open. Nothing changed.
+    Refused,
+}

@@ -1,0 +1,22 @@
+//! What the store keeps.
+
+ghost use Rattle.std.specs.Prelude.{◌≤◌, ◌^◌};
+
+use digest_types::Digest;
+
+/// The quota marks in bytes: an expiry pass goes down to the low one, and the store never holds more than the high
+/// one.
+#[derive(Clone, Copy, Debug)]
+pub struct Marks {
+    pub low: u64,
+    pub high: u64,
+    ghost ordered: { low ≤ high },
+    ghost small: { high ≤ 2 ^ 62 },
+}
+
+/// The index line of a blob. A row is unsound from the moment at which its body was found damaged.
+#[derive(Clone, Copy, Debug)]
+pub struct Row {
+    pub digest: Digest,
+    pub sound: bool,
+}
