@@ -1,0 +1,116 @@
+-- Puts of a request, one after the other: what they leave as it was.
+use Rattle.std.proofs.Common.{◌≡◌, ℕ, ◌+◌, ◌^◌, ◌<◌, ◌≤◌, ◌∙◌, Bool, true, false, cond, ◌&&◌, List, [], ◌∷◌, ◌++◌, length, get_or, drop, Option, Some, None, Result, Ok, Err, refl, sym, ap, append_assoc, add-one, drop-cons, arith}
+use Rattle.std.specs.Prelude.{◌==◌, nat_le}
+use Rattle.std.specs.List.{AllByRecursion, list_all, sum_by}
+use Rattle.std.proofs.lemmas.Bool.{leb-true}
+use Rattle.std.proofs.lemmas.List.{append-nil, drop_all}
+use Rattle.std.proofs.lemmas.List.Sums.{sum_by-cons}
+use Rattle.digest_types.specs.Name.{HashAndSize}
+use Rattle.casd_base.specs.declared.status.Status.{Status}
+use Rattle.store_core.specs.declared.state.Row.{Row}
+use Rattle.store_core.specs.declared.event.Event.TheVariants as events
+use Rattle.store_core.specs.declared.event.Reply.{Reply}
+use Rattle.store_core.specs.State.{State, row_of}
+use Rattle.store_core.specs.Step.{with_room, put_over, put, step}
+use Rattle.casd_server.specs.declared.message.MessageFault.{MessageFault}
+use Rattle.casd_server.specs.declared.message.UpdateItem.{UpdateItem}
+use Rattle.casd_server.specs.declared.message.UpdateAnswer.{UpdateAnswer}
+use Rattle.casd_server.specs.Message.{Update, update_of}
+use Rattle.casd_server.specs.Batch.{max_batch, is_built, put_item, put_items, update, batch_update}
+
+-- ---- the number of the next owner stays
+
+kept_if : {A : Type 0} (t : Bool) (x y : A × State) (n : ℕ) → x.1.next_owner ≡ n → y.1.next_owner ≡ n → (cond t x y).1.next_owner ≡ n
+kept_if true x y n p q = p
+kept_if false x y n p q = q
+
+one_if : (t : Bool) (x y : State) (n : ℕ) → x.next_owner ≡ n → y.next_owner ≡ n → (cond t x y).next_owner ≡ n
+one_if true x y n p q = p
+one_if false x y n p q = q
+
+with_room-next_owner : (s : State) (size : ℕ) → (with_room s size).next_owner ≡ s.next_owner
+with_room-next_owner s size = one_if _ _ _ _ refl refl
+
+put_over-next_owner : (s : State) (d : HashAndSize) (row : Option Row) → (put_over s d row).1.next_owner ≡ s.next_owner
+put_over-next_owner s d (Some row) = refl
+put_over-next_owner s d None = kept_if {A = Reply} _ _ _ _ refl (with_room-next_owner s d.size)
+
+put-next_owner : (s : State) (d : HashAndSize) → (put s d).1.next_owner ≡ s.next_owner
+put-next_owner s d = kept_if {A = Reply} _ _ _ _ refl (put_over-next_owner s d (row_of d s.rows))
+
+step-put-next_owner : (s : State) (owner : ℕ) (d : HashAndSize) → (step s owner (events.Put d)).1.next_owner ≡ s.next_owner
+unfolding step
+step-put-next_owner s owner d = kept_if {A = Reply} _ _ _ _ (put-next_owner s d) refl
+
+pub put_item-next_owner : (s : State) (owner : ℕ) (item : UpdateItem) → (put_item s owner item).1.next_owner ≡ s.next_owner
+unfolding put_item
+put_item-next_owner s owner item = kept_if {A = Status} _ _ _ _ (step-put-next_owner s owner item.digest) refl
+
+pub put_items-next_owner : (s : State) (owner : ℕ) (items : List UpdateItem) → (put_items s owner items).1.next_owner ≡ s.next_owner
+unfolding put_items
+put_items-next_owner s owner [] = refl
+put_items-next_owner s owner (item ∷ items) = put_items-next_owner (put_item s owner item).1 owner items ∙ put_item-next_owner s owner item
+
+update-next_owner : (s : State) (owner : ℕ) (read : Result Update MessageFault) → (update s owner read).1.next_owner ≡ s.next_owner
+unfolding update
+update-next_owner s owner (Err e) = refl
+update-next_owner s owner (Ok r) = kept_if {A = Result (List ℕ) Status} _ _ _ _ (put_items-next_owner s owner r.items) refl
+
+-- the call keeps the number of the next owner, whatever it answers
+pub batch_update-next_owner : (s : State) (owner : ℕ) (messages : List (List ℕ)) → (batch_update s owner messages).1.next_owner ≡ s.next_owner
+unfolding batch_update
+batch_update-next_owner s owner [] = refl
+batch_update-next_owner s owner (message ∷ []) = update-next_owner s owner (update_of message)
+batch_update-next_owner s owner (message ∷ next ∷ more) = refl
+
+-- ---- items that are put one after the other, as a loop does
+
+-- the answers so far, and those that follow
+abbrev pub put_after : List UpdateAnswer → List UpdateAnswer × State → List UpdateAnswer × State
+put_after front put = (front ++ put.0, put.1)
+
+-- an item was put, and the rest goes on
+pub put_goes_on : (front : List UpdateAnswer) (s after : State) (owner : ℕ) (items : List UpdateItem) (i : ℕ) (item : UpdateItem) (status : Status) (total : List UpdateAnswer × State) → i < length items → item ≡ get_or items i item
+    → (status, after) ≡ put_item s owner item → put_after front (put_items s owner (drop i items)) ≡ total → put_after (front ++ record { digest = item.digest; status = status } ∷ []) (put_items after owner (drop (i + 1) items)) ≡ total
+unfolding put_items
+put_goes_on front s after owner items i item status total lt is h so_far =
+    let opened : drop i items ≡ item ∷ drop (i + 1) items = rw (add-one, drop-cons items i item lt, ← is) refl in
+    let more = drop (i + 1) items in
+    let rest = put_items after owner more in
+    let answer : UpdateAnswer = record { digest = item.digest; status = status } in
+    let first : put_items s owner (drop i items) ≡ (answer ∷ rest.0, rest.1) =
+    ap (put_items s owner) opened
+    ∙ ap (λ (x : Status × State). (record { digest = item.digest; status = x.0 } ∷ (put_items x.1 owner more).0, (put_items x.1 owner more).1)) (sym h)
+    in
+    sym (ap (put_after front) first ∙ ap (λ (answers : List UpdateAnswer). (answers, rest.1)) (sym (append_assoc front (answer ∷ []) rest.0))) ∙ so_far
+
+-- all items were put
+pub put_is_done : (front : List UpdateAnswer) (s : State) (owner : ℕ) (items : List UpdateItem) (i : ℕ) (total : List UpdateAnswer × State) → length items ≤ i → put_after front (put_items s owner (drop i items)) ≡ total → (front, s) ≡ total
+unfolding put_items
+put_is_done front s owner items i total past so_far =
+    let one : put_after front (put_items s owner (drop i items)) ≡ (front, s) = rw (drop_all i items past) (ap (λ (answers : List UpdateAnswer). (answers, s)) (append-nil front)) in
+    sym one ∙ so_far
+
+-- ---- each item of a request within the limit is small
+
+each_small : (n : ℕ) (items : List UpdateItem) → sum_by (λ item. length item.bytes) items ≤ n → AllByRecursion (λ item. length item.bytes ≤ n) items
+each_small n [] le = tt
+each_small n (item ∷ items) le =
+    let whole = sum_by-cons (λ (x : UpdateItem). length x.bytes) item items in
+    (omega arith, each_small n items (omega arith))
+
+each_smaller : (n m : ℕ) (items : List UpdateItem) → n ≤ m → AllByRecursion (λ item. length item.bytes ≤ n) items → AllByRecursion (λ item. length item.bytes ≤ m) items
+each_smaller n m [] le h = tt
+each_smaller n m (item ∷ items) le h = (omega (arith, h.0), each_smaller n m items le h.1)
+
+last_holds : (a b : Bool) → (a && b) ≡ true → b ≡ true
+last_holds true b h = h
+last_holds false b h = absurd cc
+
+-- a request that is built has no item that is too large to be hashed
+pub built_small : (r : Update) → is_built r ≡ true → AllByRecursion (λ item. length item.bytes ≤ 2 ^ 60) r.items
+built_small r h =
+    let size = sum_by (λ (item : UpdateItem). length item.bytes) r.items in
+    let others = nat_le r.digest_function 1 && list_all (λ (item : UpdateItem). item.compressor == 0) r.items in
+    let within : size ≤ max_batch = leb-true size max_batch (last_holds others (nat_le size max_batch) h) in
+    each_smaller max_batch (2 ^ 60) r.items (omega arith) (each_small max_batch r.items within)

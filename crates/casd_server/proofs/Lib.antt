@@ -1,0 +1,15 @@
+pub mod CutLemmas
+pub mod Messages
+pub mod WordLemmas
+pub mod SeatLemmas
+pub mod HexMessages
+pub mod RecordLemmas
+pub mod MessageLemmas
+pub mod BatchLemmas
+pub mod Streams
+pub mod InputLemmas
+pub mod Running
+pub mod Stepping
+pub mod TextLemmas
+pub mod SeatedLemmas
+pub mod WordsLemmas

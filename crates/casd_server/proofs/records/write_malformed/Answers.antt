@@ -1,0 +1,5 @@
+use Rattle.casd_server.proofs.Streams.{OnErr-any, AddsPart-none}
+use Rattle.casd_server.proofs.records.write_malformed.Goals as goal
+
+pub returns-in_err-text-clause-err : goal.returns-in_err-text-clause-err
+returns-in_err-text-clause-err g c = OnErr-any c.from_residual.result (AddsPart-none _ _)

@@ -1,0 +1,14 @@
+pub mod Word
+pub mod Cut
+pub mod Record
+pub mod Wire
+pub mod Message
+pub mod Batch
+pub mod Answer
+pub mod Run
+pub mod Pending
+pub mod Input
+pub mod Output
+pub mod Replay
+pub mod Going
+pub mod Ends

@@ -1,0 +1,270 @@
+//! Replaying records: lines of calls on standard input become lines of answers.
+
+ghost use Rattle.std.specs.Prelude.{◌≡◌, ◌≢◌, ◌⊎◌, ◌↔◌, ◌+◌, ◌-◌, length, IfSome, IfNone, None, if◌then◌else◌, ◌≤◌, ◌<◌, ◌^◌, ℕ, List, Option, map, IfOk, IfErr, OnOk, OnErr, IsErrOf, IsTrue, MatchOption, Some, true, false, string_bytes};
+ghost use Rattle.casd_base.specs.Causes.{Rose};
+ghost use Rattle.casd_base.specs.Streams.{Adds};
+ghost use Rattle.casd_server.specs.Output.{AddsPart};
+ghost use Rattle.casd_server.specs.Record.{record_of};
+ghost use Rattle.casd_server.specs.Answer.{Seated};
+ghost use Rattle.casd_server.specs.Run.{line_result, malformed_text};
+ghost use Rattle.casd_server.specs.Going.{Going};
+ghost use Rattle.casd_server.specs.Replay.{Replays, AreRecordsWords, status_of};
+ghost use Rattle.casd_server.specs.declared.records.End.TheVariants as ends;
+
+use crate::input::{Found, Input, Stop};
+use crate::output::write_all;
+use crate::parse::parse;
+use crate::seats::Seats;
+use casd_base::{Sink, SinkEnd, Source};
+use proto_wire::OutOfMemory;
+use std::alloc::{AllocError, Global};
+use store_core::Marks;
+
+/// The marks of a store that is told none, in bytes.
+const DEFAULT_MARKS: Marks = Marks {
+    low: 1_610_612_736,
+    high: 2_147_483_648,
+};
+
+/// How a replay ended.
+#[derive(Clone, Copy, Debug, PartialEq, Eq)]
+pub enum End {
+    /// The input was read to its end, and all lines were answered.
+    Done,
+    /// The words aren't those of a replay.
+    Refused,
+    /// A line was malformed.
+    Malformed,
+    /// The source failed.
+    ReadFault,
+    /// The sink failed.
+    WriteFault,
+    OutOfMemory,
+    /// 2^50 bytes were read.
+    Spent,
+}
+
+impl End {
+    /// The status of the process.
+    pub fn status(self) -> u8
+        ensures { result ≡ status_of self }
+    {
+        match self {
+            End::Done => 0,
+            End::Refused => 2,
+            End::Malformed => 3,
+            End::ReadFault => 4,
+            End::WriteFault => 5,
+            End::OutOfMemory => 6,
+            End::Spent => 7,
+        }
+    }
+}
+
+impl From<OutOfMemory> for End {
+    ghost from_gives = { λ _ e. e ≡ ends.OutOfMemory };
+
+    fn from(_e: OutOfMemory) -> End {
+        End::OutOfMemory
+    }
+}
+
+impl From<AllocError> for End {
+    ghost from_gives = { λ _ e. e ≡ ends.OutOfMemory };
+
+    fn from(_e: AllocError) -> End {
+        End::OutOfMemory
+    }
+}
+
+impl From<SinkEnd> for End {
+    ghost use Rattle.casd_server.specs.Ends.{end_of_sink};
+
+    ghost from_gives = { λ e r. r ≡ end_of_sink e };
+
+    fn from(e: SinkEnd) -> End {
+        match e {
+            SinkEnd::Failed => End::WriteFault,
+            SinkEnd::OutOfMemory => End::OutOfMemory,
+        }
+    }
+}
+
+impl From<Stop> for End {
+    ghost use Rattle.casd_server.specs.Ends.{end_of_stop};
+
+    ghost from_gives = { λ e r. r ≡ end_of_stop e };
+
+    fn from(e: Stop) -> End {
+        match e {
+            Stop::ReadFault => End::ReadFault,
+            Stop::OutOfMemory => End::OutOfMemory,
+            Stop::Spent => End::Spent,
+        }
+    }
+}
+
+fn write_malformed<W: Sink>(alloc: Global, number: u64, sink: &mut W) -> Result<(), End>
+    ensures ok { OnOk result (Adds (W.written sink.old) (W.written sink.new) (malformed_text number)) }
+    ensures err { OnErr result (AddsPart (W.written sink.old) (W.written sink.new) (malformed_text number)) }
+    ensures end { IfErr result (λ e. (e ≡ ends.WriteFault) ⊎ (e ≡ ends.OutOfMemory)) }
+    ensures later { W.write_faults sink.old ≤ W.write_faults sink.new }
+    ensures fault { IsErrOf result End.WriteFault → Rose (W.write_faults sink.old) (W.write_faults sink.new) }
+{
+    let text = format!(in alloc; "malformed line {number}\n")?;
+    write_all(sink, text.as_bytes())?;
+    Ok(())
+}
+
+/// Answers one line, and says whether it was a record.
+fn answer<W: Sink>(
+    alloc: Global,
+    seats: &mut Seats,
+    number: u64,
+    line: &[u8],
+    sink: &mut W,
+) -> Result<bool, End>
+    requires count { seats.old.core.next_owner < 2 ^ 64 - 2 }
+    ensures ok { IfOk result (λ going. Adds (W.written sink.old) (W.written sink.new) (line_result seats.old number (record_of line.now)).0) }
+    ensures kept { IfOk result (λ going. (line_result seats.old number (record_of line.now)).1 ≡ (if going then Some seats.new else None)) }
+    ensures owners { OnOk result (seats.new.core.next_owner ≤ seats.old.core.next_owner + 1) }
+    ensures err { OnErr result (AddsPart (W.written sink.old) (W.written sink.new) (line_result seats.old number (record_of line.now)).0) }
+    ensures end { IfErr result (λ e. (e ≡ ends.WriteFault) ⊎ (e ≡ ends.OutOfMemory)) }
+    ensures later { W.write_faults sink.old ≤ W.write_faults sink.new }
+    ensures fault { IsErrOf result End.WriteFault → Rose (W.write_faults sink.old) (W.write_faults sink.new) }
+{
+    let Some(record) = parse(alloc, line)? else {
+        write_malformed(alloc, number, sink)?;
+        return Ok(false);
+    };
+    let text = seats.answer(&record)?;
+    write_all(sink, text.as_bytes())?;
+    Ok(true)
+}
+
+/// What a replay keeps between two lines. Lines count from 1.
+#[derive(Drop)]
+struct Running {
+    alloc: Global,
+    input: Input,
+    seats: Seats,
+    number: u64,
+}
+
+/// Reads and answers one line, and says how the replay ended, if it did.
+fn step<S: Source, W: Sink>(
+    running: &mut Running,
+    source: &mut S,
+    sink: &mut W,
+) -> Result<Option<End>, End>
+    requires count { running.old.number < 2 ^ 63 }
+    requires owners { running.old.seats.core.next_owner ≤ running.old.number }
+    ensures ok { (left written : Option (List ℕ))
+        → Going left (S.left source.old) written (W.written sink.old) running.old.input running.old.seats running.old.number
+        → IfOk result (λ o. MatchOption o
+        (Going left (S.left source.new) written (W.written sink.new) running.new.input running.new.seats running.new.number)
+        (Replays left (S.left source.new) written (W.written sink.new))) }
+    ensures err { (left written : Option (List ℕ))
+        → Going left (S.left source.old) written (W.written sink.old) running.old.input running.old.seats running.old.number
+        → IfErr result (Replays left (S.left source.new) written (W.written sink.new)) }
+    // A line was taken of what was pending or came.
+    ensures shorter { IfOk result (λ o. IfNone o (length running.new.input.bytes + running.old.input.read < length running.old.input.bytes + running.new.input.read)) }
+    ensures bounded { running.new.input.read ≤ 2 ^ 50 }
+    ensures later { S.read_faults source.old ≤ S.read_faults source.new }
+    ensures written { W.write_faults sink.old ≤ W.write_faults sink.new }
+    ensures read_fault { IsErrOf result End.ReadFault → Rose (S.read_faults source.old) (S.read_faults source.new) }
+    ensures write_fault { IsErrOf result End.WriteFault → Rose (W.write_faults sink.old) (W.write_faults sink.new) }
+    ensures ends { IfOk result (λ o. IfSome o (λ e. (e ≡ ends.Done) ⊎ (e ≡ ends.Malformed))) }
+    ensures faults { IfErr result (λ e. e ≢ ends.Refused) }
+{
+    let Running {
+        alloc,
+        input,
+        seats,
+        number,
+    } = running;
+    match input.fill(source)? {
+        Found::Line(len) => {
+            if !answer(*alloc, seats, *number, input.front(len), sink)? {
+                return Ok(Some(End::Malformed));
+            }
+            input.advance(len + 1);
+            *number += 1;
+            Ok(None)
+        }
+        Found::End => {
+            if input.pending().is_empty() {
+                return Ok(Some(End::Done));
+            }
+            if !answer(*alloc, seats, *number, input.pending(), sink)? {
+                return Ok(Some(End::Malformed));
+            }
+            Ok(Some(End::Done))
+        }
+        Found::TooLong => {
+            write_malformed(*alloc, *number, sink)?;
+            Ok(Some(End::Malformed))
+        }
+    }
+}
+
+/// Reads and answers lines until the replay ends.
+fn run<S: Source, W: Sink>(alloc: Global, source: &mut S, sink: &mut W) -> Result<End, End>
+    ensures ok { IfOk result (Replays (S.left source.old) (S.left source.new) (W.written sink.old) (W.written sink.new)) }
+    ensures err { IfErr result (Replays (S.left source.old) (S.left source.new) (W.written sink.old) (W.written sink.new)) }
+    ensures later { S.read_faults source.old ≤ S.read_faults source.new }
+    ensures written { W.write_faults sink.old ≤ W.write_faults sink.new }
+    ensures read_fault { IsErrOf result End.ReadFault → Rose (S.read_faults source.old) (S.read_faults source.new) }
+    ensures write_fault { IsErrOf result End.WriteFault → Rose (W.write_faults sink.old) (W.write_faults sink.new) }
+    ensures ends { IfOk result (λ e. (e ≡ ends.Done) ⊎ (e ≡ ends.Malformed)) }
+    ensures faults { IfErr result (λ e. e ≢ ends.Refused) }
+{
+    let mut running = Running {
+        alloc,
+        input: Input::new(alloc),
+        seats: Seats::new(alloc, DEFAULT_MARKS)?,
+        number: 1,
+    };
+    'lines: loop {
+        if let Some(end) = step(&mut running, source, sink)? {
+            return Ok(end);
+        }
+    }
+}
+
+fn are_words(words: &[&str], wanted: &[&str]) -> bool
+    ensures { IsTrue result ↔ (map (λ w. w.now) words.now ≡ map (λ w. w.now) wanted.now) }
+{
+    words == wanted
+}
+
+fn are_records_words(words: &[&str]) -> bool
+    ensures { IsTrue result ↔ AreRecordsWords (map (λ w. w.now) words.now) }
+{
+    are_words(words, &["replay", "records"]) || are_words(words, &["replay", "records", "--"])
+}
+
+/// Runs the records of the source, and writes their answers to the sink. The words are those of the command line,
+/// without the program's name. It answers the status of the process: 0 where all was answered, 2 for other words than
+/// `replay records`, 3 for a malformed line, 4 and 5 for a fault of the source and the sink, 6 where memory ran out,
+/// 7 where 2^50 bytes were read.
+pub fn replay<S: Source, W: Sink>(alloc: Global, words: &[&str], source: &mut S, sink: &mut W) -> u8
+    // The status is that of an end, and what was read and written is what that end says.
+    ensures replays { (end : End) × (result ≡ status_of end)
+        × Replays (S.left source.old) (S.left source.new) (W.written sink.old) (W.written sink.new) end }
+    ensures refused { (result ≡ 2) ↔ ¬ AreRecordsWords (map (λ w. w.now) words.now) }
+    ensures untouched { result ≡ 2 → (S.left source.new ≡ S.left source.old) × (W.written sink.new ≡ W.written sink.old) }
+    // A fault is answered only where it was counted, and no count falls.
+    ensures read_fault { result ≡ 4 → Rose (S.read_faults source.old) (S.read_faults source.new) }
+    ensures write_fault { result ≡ 5 → Rose (W.write_faults sink.old) (W.write_faults sink.new) }
+    ensures reads_later { S.read_faults source.old ≤ S.read_faults source.new }
+    ensures writes_later { W.write_faults sink.old ≤ W.write_faults sink.new }
+{
+    if !are_records_words(words) {
+        return End::Refused.status();
+    }
+    let end = match run(alloc, source, sink) {
+        Ok(end) | Err(end) => end,
+    };
+    end.status()
+}
