@@ -43,6 +43,7 @@ LosesSome-block a b c p q r m k = record {
   takes = Takes-then a b c m.more k.loses.lost m.takes k.loses.takes;
   bytes = k.bytes ∙ m.bytes;
   read = k.read ∙ m.read;
+  few = omega (arith, k.loses.few, k.bounded, k.read);
 }
 
 pub IsSpent-same : (a b c : Option (List ℕ)) (p q r : Pending) → ReadsMore a b p q → (c ≡ b) × (r ≡ q) × (r.read ≡ 2 ^ 50) → IsSpent a c p r

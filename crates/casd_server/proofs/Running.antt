@@ -1,5 +1,5 @@
 -- A replay between two lines, and how it ends.
-use Rattle.std.proofs.Common.{◌≡◌, ℕ, ◌+◌, ◌<◌, ◌≤◌, true, ltb, List, [], ◌∷◌, ◌++◌, length, Option, Some, None, refl, sym, ap, ◌∙◌, append_assoc, arith, inl, inr}
+use Rattle.std.proofs.Common.{◌≡◌, ℕ, ◌+◌, ◌^◌, ◌<◌, ◌≤◌, true, ltb, List, [], ◌∷◌, ◌++◌, length, Option, Some, None, refl, sym, ap, ◌∙◌, append_assoc, arith, inl, inr}
 use Rattle.std.proofs.lemmas.List.{append-nil, length-append}
 use Rattle.std.proofs.lemmas.Bool.{lt-ltb}
 use Rattle.casd_base.specs.Streams.{Takes, Adds, IsEnded}
@@ -47,13 +47,14 @@ Going-start left written = record {
   adds = Adds-none written;
   rest = λ more. refl;
   read = refl;
+  bounded = omega arith;
   lines = omega arith;
   owners = omega arith;
 }
 
 -- more was read
-pub Going-reads : (left a b written w : Option (List ℕ)) (p p' : Pending) (s : Seated) (k : ℕ) → Going left a written w p s k → ReadsMore a b p p' → Going left b written w p' s k
-Going-reads left a b written w p p' s k g r = record {
+pub Going-reads : (left a b written w : Option (List ℕ)) (p p' : Pending) (s : Seated) (k : ℕ) → Going left a written w p s k → ReadsMore a b p p' → p'.read ≤ 2 ^ 50 → Going left b written w p' s k
+Going-reads left a b written w p p' s k g r few = record {
   input = g.input ++ r.more;
   output = g.output;
   takes = Takes-then left a b g.input r.more g.takes r.takes;
@@ -61,6 +62,7 @@ Going-reads left a b written w p p' s k g r = record {
   rest = λ more. ap outcome_of (append_assoc g.input r.more more) ∙ g.rest (r.more ++ more)
       ∙ ap (λ (bytes : List ℕ). behind g.output (outcome s k (lines_of bytes))) (sym (append_assoc p.bytes r.more more) ∙ ap (λ (bytes : List ℕ). bytes ++ more) (sym r.bytes));
   read = omega (arith, length-append g.input r.more, g.read, r.read);
+  bounded = few;
   lines = omega (arith, length-append p.bytes r.more, ap (λ (l : List ℕ). length l) r.bytes, g.lines, r.read);
   owners = g.owners;
 }
@@ -86,6 +88,7 @@ Going-line left l written w w' p s s' k line rest text g is clear result added f
   rest = λ more. g.rest more ∙ ap (behind g.output) (outcome-line s k line rest more p.bytes (text, Some s') is clear result)
       ∙ ap (λ (t : List ℕ). record { text = t; status = (outcome s' (k + 1) (lines_of (rest ++ more))).status }) (sym (append_assoc g.output text (outcome s' (k + 1) (lines_of (rest ++ more))).text));
   read = g.read;
+  bounded = g.bounded;
   lines = omega (arith, ap (λ (b : List ℕ). length b) is, length-append line (10 ∷ rest), g.lines);
   owners = few;
 }
@@ -102,6 +105,7 @@ ends-empty left l written w p s k g is ended = record {
   output = g.output;
   takes = g.takes;
   adds = g.adds;
+  bounded = omega (arith, g.read, g.bounded);
   answers = (
     outcome-now left l written w p s k g ∙ ap (λ (b : List ℕ). behind g.output (outcome s k (lines_of b))) is
         ∙ ap (λ (x : List (List ℕ)). behind g.output (outcome s k x)) lines_of-nil ∙ ap (behind g.output) (outcome-nil s k)
@@ -125,6 +129,7 @@ ends-last left l written w w' p s s' k text g some clear result added ended = re
   output = g.output ++ text;
   takes = g.takes;
   adds = Adds-then written w w' g.output text g.adds added;
+  bounded = omega (arith, g.read, g.bounded);
   answers = (
     outcome-now left l written w p s k g ∙ ap (behind g.output) (outcome-last s k p.bytes (text, Some s') some clear result ∙ ap (λ (o : Outcome). record { text = text ++ o.text; status = o.status }) (outcome-nil s' (k + 1)))
         ∙ ap (λ (t : List ℕ). record { text = g.output ++ t; status = 0 }) (append-nil text),
@@ -140,6 +145,7 @@ ends-last_malformed left l written w w' p s k text g some clear result added end
   output = g.output ++ text;
   takes = g.takes;
   adds = Adds-then written w w' g.output text g.adds added;
+  bounded = omega (arith, g.read, g.bounded);
   answers = (outcome-now left l written w p s k g ∙ ap (behind g.output) (outcome-last s k p.bytes (text, None) some clear result), inr ended);
 }
 
@@ -155,6 +161,7 @@ ends-malformed left l written w w' p s k line rest text g is clear result added 
       output = g.output ++ text;
       takes = g.takes;
       adds = Adds-then written w w' g.output text g.adds added;
+      bounded = omega (arith, g.read, g.bounded);
       answers = (now, inl (λ more. all more ∙ sym now));
     }
 
@@ -179,15 +186,17 @@ ends-long left l written w w' p s k front rest g is clear long added =
       output = g.output ++ malformed_text k;
       takes = g.takes;
       adds = Adds-then written w w' g.output (malformed_text k) g.adds added;
+      bounded = omega (arith, g.read, g.bounded);
       answers = (now, inl (λ more. all more ∙ sym now));
     }
 
 -- the source gave no more: what was written is a part
 pub cut_off : (left a b written w : Option (List ℕ)) (p p' : Pending) (s : Seated) (k : ℕ) (g : Going left a written w p s k) (r : LosesSome a b p p')
-    → Takes left b (g.input ++ (r.kept ++ r.lost)) × IsPart (g.input ++ (r.kept ++ r.lost)) g.output
+    → Takes left b (g.input ++ (r.kept ++ r.lost)) × IsPart (g.input ++ (r.kept ++ r.lost)) g.output × (length (g.input ++ (r.kept ++ r.lost)) ≤ 2 ^ 50)
 cut_off left a b written w p p' s k g r = (
   Takes-then left a b g.input (r.kept ++ r.lost) g.takes r.takes,
   ((outcome s k (lines_of (p.bytes ++ (r.kept ++ r.lost)))).text, ap (λ (o : Outcome). o.text) (g.rest (r.kept ++ r.lost))),
+  omega (arith, length-append g.input (r.kept ++ r.lost), length-append r.kept r.lost, g.read, r.read, r.few),
 )
 
 -- the sink took a part of what a line writes

@@ -1,10 +1,15 @@
 -- What a record leaves of the seats: it opens one owner at most.
-use Rattle.std.proofs.Common.{◌≡◌, ℕ, ◌+◌, ◌≤◌, Bool, true, false, cond, ◌==◌, List, Option, Some, None, Result, Err, refl, arith}
-use Rattle.store_core.specs.Step.{step}
+use Rattle.std.proofs.Common.{◌≡◌, ℕ, ◌+◌, ◌≤◌, zero, suc, Bool, true, false, cond, not, ◌==◌, List, filter, Option, Some, None, Result, Err, refl, ◌∙◌, arith, add-one}
+use Rattle.std.specs.Prelude.{nat_eq}
+use Rattle.store_core.specs.State.{State}
+use Rattle.store_core.specs.Step.{step, is_open}
+use Rattle.store_core.specs.declared.event.Event.TheVariants as events
+use Rattle.store_core.specs.declared.event.Reply.{Reply}
+use Rattle.store_core.specs.declared.event.Reply.TheVariants as replies
 use Rattle.casd_base.specs.declared.status.Status.{Status}
 use Rattle.casd_server.specs.Record.{Asked}
 use Rattle.casd_server.specs.Batch.{batch_update, not_built}
-use Rattle.casd_server.specs.Answer.{Seated, owner_at, seated_with, opened, with_core, is_batch, run_record, answer}
+use Rattle.casd_server.specs.Answer.{Seated, owner_at, seated_with, closed_with, closed_below, opened, with_core, is_batch, run_record, answer}
 use Rattle.casd_server.proofs.BatchLemmas.{batch_update-next_owner}
 
 -- whatever is only true of none, holds of nothing but it
@@ -46,3 +51,30 @@ answer-next_owner s r = run_record-next_owner s r
 
 -- for the attribute of `Seats::run`
 pub ruleset one_more = opened-next_owner
+
+same_of : (n : ℕ) (t : Bool) (x y : Reply × State) → x.1.next_owner ≡ n → y.1.next_owner ≡ n → (cond t x y).1.next_owner ≡ n
+same_of n true x y p q = p
+same_of n false x y p q = q
+
+-- closing changes no number
+close-next_owner : (s : State) (owner : ℕ) → (step s owner events.Close).1.next_owner ≡ s.next_owner
+unfolding step
+close-next_owner s owner = same_of s.next_owner (is_open s owner) (replies.Closed, record s { owners = filter (λ o. not (nat_eq o owner)) s.owners }) (replies.Refused, s) refl refl
+
+pub closed_with-next_owner : (s : Seated) (seat : ℕ) (owner : Option ℕ) → (closed_with s seat owner).core.next_owner ≡ s.core.next_owner
+closed_with-next_owner s seat None = refl
+closed_with-next_owner s seat (Some owner) = close-next_owner s.core owner
+
+pub closed_below-next_owner : (n : ℕ) (s : Seated) → (closed_below n s).core.next_owner ≡ s.core.next_owner
+unfolding closed_below
+closed_below-next_owner zero s = refl
+closed_below-next_owner (suc n) s = closed_with-next_owner (closed_below n s) n (owner_at (closed_below n s) n) ∙ closed_below-next_owner n s
+
+-- one more seat is closed
+pub closed_below-next : (n : ℕ) (s : Seated) → closed_below (n + 1) s ≡ closed_with (closed_below n s) n (owner_at (closed_below n s) n)
+unfolding closed_below
+closed_below-next n s = rw add-one refl
+
+pub closed_below-none : (s : Seated) → closed_below 0 s ≡ s
+unfolding closed_below
+closed_below-none s = refl

@@ -29,18 +29,19 @@ pub ends-stop : (left a b written w : Option (List ℕ)) (p p' : Pending) (s : S
     → (e ≡ stops.Spent → IsSpent a b p p') → Replays left b written w (end_of_stop e)
 ends-stop left a b written w p p' s k stops.ReadFault g r full =
     let cut = cut_off left a b written w p p' s k g r in
-    record { input = g.input ++ (r.kept ++ r.lost); output = g.output; takes = cut.0; adds = g.adds; answers = cut.1 }
+    record { input = g.input ++ (r.kept ++ r.lost); output = g.output; bounded = cut.2; takes = cut.0; adds = g.adds; answers = cut.1 }
 ends-stop left a b written w p p' s k stops.OutOfMemory g r full =
     let cut = cut_off left a b written w p p' s k g r in
-    record { input = g.input ++ (r.kept ++ r.lost); output = g.output; takes = cut.0; adds = g.adds; answers = cut.1 }
+    record { input = g.input ++ (r.kept ++ r.lost); output = g.output; bounded = cut.2; takes = cut.0; adds = g.adds; answers = cut.1 }
 ends-stop left a b written w p p' s k stops.Spent g r full =
     let spent = full refl in
-    let now : Going left b written w p' s k = Going-reads left a b written w p p' s k g spent.reads in
-    let none : LosesSome b b p' p' = record { kept = []; lost = []; takes = takes-none b; bytes = sym (append-nil p'.bytes); read = omega arith } in
+    let now : Going left b written w p' s k = Going-reads left a b written w p p' s k g spent.reads (omega (arith, spent.full)) in
+    let none : LosesSome b b p' p' = record { kept = []; lost = []; takes = takes-none b; bytes = sym (append-nil p'.bytes); read = omega arith; few = omega (arith, spent.full) } in
     let cut = cut_off left b b written w p' p' s k now none in
     record {
       input = now.input ++ ([] ++ []);
       output = now.output;
+      bounded = cut.2;
       takes = cut.0;
       adds = now.adds;
       answers = (cut.1, omega (arith, length-append now.input ([] ++ []), now.read, spent.full));
@@ -70,7 +71,7 @@ pub ends-part : (left l written w w' : Option (List ℕ)) (p : Pending) (s : Sea
 ends-part left l written w w' p s k line text lines e g cut writes part which =
     let is = part-line left l written w p s k line text part.part part.rest lines g cut writes part.whole in
     let made : (end : End) → Answers end g.input (g.output ++ part.part) l → Replays left l written w' end =
-    λ end answers. record { input = g.input; output = g.output ++ part.part; takes = g.takes; adds = Adds-then written w w' g.output part.part g.adds part.adds; answers = answers } in
+    λ end answers. record { input = g.input; output = g.output ++ part.part; bounded = omega (arith, g.read, g.bounded); takes = g.takes; adds = Adds-then written w w' g.output part.part g.adds part.adds; answers = answers } in
     elim which [
       | inl fault ↦ subst (λ (x : End). Replays left l written w' x) (sym fault) (made ends.WriteFault is)
       | inr memory ↦ subst (λ (x : End). Replays left l written w' x) (sym memory) (made ends.OutOfMemory is)
@@ -184,11 +185,11 @@ long-part left l written w w' p s k e g b part which =
 pub nothing : (left written : Option (List ℕ)) (e : End) → e ≡ ends.OutOfMemory → Replays left left written written e
 nothing left written e is =
     subst (λ (x : End). Replays left left written written x) (sym is)
-    (record { input = []; output = []; takes = Takes-none left; adds = Adds-none written; answers = ((outcome_of []).text, refl) })
+    (record { input = []; output = []; bounded = omega arith; takes = Takes-none left; adds = Adds-none written; answers = ((outcome_of []).text, refl) })
 
 -- nothing was read or written, since the words were refused
 pub nothing-refused : (left written : Option (List ℕ)) → Replays left left written written ends.Refused
-nothing-refused left written = record { input = []; output = []; takes = Takes-none left; adds = Adds-none written; answers = (refl, refl) }
+nothing-refused left written = record { input = []; output = []; bounded = omega arith; takes = Takes-none left; adds = Adds-none written; answers = (refl, refl) }
 
 -- what a match on an option says where there is a value
 pub at_some : {A : Type 0} (P : Type 0) (Q : A → Type 0) (o : Option A) (x : A) → o ≡ Some x → MatchOption o P Q → Q x

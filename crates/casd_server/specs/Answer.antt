@@ -1,5 +1,5 @@
 -- What a record answers, and its line.
-use Rattle.std.specs.Prelude.{◌==◌, ◌&&◌, not, nat_le, codes, ℕ, Bool, true, false, List, [], ◌∷◌, ◌++◌, slice_get, slice_set, replicate, Option, Some, None, Result, Ok, Err, if◌then◌else◌}
+use Rattle.std.specs.Prelude.{◌==◌, ◌&&◌, not, nat_le, codes, ℕ, zero, suc, Bool, true, false, List, [], ◌∷◌, ◌++◌, slice_get, slice_set, replicate, Option, Some, None, Result, Ok, Err, if◌then◌else◌}
 use Rattle.std.specs.List.{flat_map}
 use Rattle.std.specs.Fmt.{decimal}
 use Rattle.percent_encoding.specs.Percent.{percent_encode_byte}
@@ -40,6 +40,16 @@ seated_with s seat None =
 -- The first record of a seat opens an owner: the owner, and the state with it.
 unfoldable pub opened : Seated → ℕ → ℕ × Seated
 opened s seat = seated_with s seat (owner_at s seat)
+
+-- a seat's owner goes, if it has one
+abbrev pub closed_with : Seated → ℕ → Option ℕ → Seated
+closed_with s seat None = s
+closed_with s seat (Some owner) = record { core = (step s.core owner events.Close).1; seats = slice_set s.seats seat None }
+
+-- the owners of the first seats have gone, in the order of the seats
+unfoldable pub closed_below : ℕ → Seated → Seated
+closed_below zero s = s
+closed_below (suc seat) s = closed_with (closed_below seat s) seat (owner_at (closed_below seat s) seat)
 
 -- whether the word is the one that is built
 abbrev pub is_batch : Word → Bool

@@ -1,5 +1,5 @@
 -- What holds of a replay between two lines.
-use Rattle.std.specs.Prelude.{◌≡◌, ◌+◌, ◌≤◌, ℕ, List, ◌++◌, length, Option}
+use Rattle.std.specs.Prelude.{◌≡◌, ◌+◌, ◌^◌, ◌≤◌, ℕ, List, ◌++◌, length, Option}
 use Rattle.casd_base.specs.Streams.{Takes, Adds}
 use Rattle.casd_server.specs.Cut.{lines_of}
 use Rattle.casd_server.specs.Answer.{Seated}
@@ -20,6 +20,7 @@ pub record Going (left left' written written' : Option (List ℕ)) (pending : Pe
   pub adds : Adds written written' output
   pub rest : (more : List ℕ) → outcome_of (input ++ more) ≡ behind output (outcome kept number (lines_of (pending.bytes ++ more)))
   pub read : length input ≡ pending.read
+  pub bounded : pending.read ≤ 2 ^ 50
   -- lines and owners are fewer than the bytes that were read
   pub lines : number + length pending.bytes ≤ pending.read + 1
   pub owners : kept.core.next_owner ≤ number

@@ -1,5 +1,5 @@
 -- How the input is read, and what stands at the front of what was read.
-use Rattle.std.specs.Prelude.{◌≡◌, ◌+◌, ◌<◌, ◌≤◌, ◌^◌, ℕ, List, ◌∷◌, ◌++◌, length, Option}
+use Rattle.std.specs.Prelude.{◌≡◌, ◌+◌, ◌-◌, ◌<◌, ◌≤◌, ◌^◌, ℕ, List, ◌∷◌, ◌++◌, length, Option}
 use Rattle.casd_base.specs.Streams.{Takes, IsEnded}
 use Rattle.casd_server.specs.Cut.{NoByte}
 use Rattle.casd_server.specs.Pending.{Pending}
@@ -14,21 +14,23 @@ pub record Appends (before after : Option (List ℕ)) (old new : List ℕ) (coun
   pub whole : new ≡ old ++ block
   pub len : length block ≡ count
 
--- some bytes may have been taken from the source, and are lost: memory ran out
-pub record Loses (before after : Option (List ℕ)) : Type 0 where
+-- so many bytes at most may have been taken from the source, and are lost: memory ran out
+pub record Loses (before after : Option (List ℕ)) (most : ℕ) : Type 0 where
   pub lost : List ℕ
   pub takes : Takes before after lost
+  pub few : length lost ≤ most
 
 -- a block of so many bytes was taken from the source, is pending, and counts
 pub record ReadsBlock (before after : Option (List ℕ)) (old new : Pending) (count : ℕ) : Type 0 where
   pub bytes : Appends before after old.bytes new.bytes count
   pub read : new.read ≡ old.read + count
 
--- what is pending is as it was
+-- What is pending is as it was. With what may be lost, no more was read than is allowed.
 pub record LosesBlock (before after : Option (List ℕ)) (old new : Pending) : Type 0 where
-  pub loses : Loses before after
+  pub loses : Loses before after (2 ^ 50 - old.read)
   pub bytes : new.bytes ≡ old.bytes
   pub read : new.read ≡ old.read
+  pub bounded : old.read ≤ 2 ^ 50
 
 -- More was read: the source gave it, it stands behind the bytes that were pending, and it counts.
 pub record ReadsMore (before after : Option (List ℕ)) (old new : Pending) : Type 0 where
@@ -44,6 +46,7 @@ pub record LosesSome (before after : Option (List ℕ)) (old new : Pending) : Ty
   pub takes : Takes before after (kept ++ lost)
   pub bytes : new.bytes ≡ old.bytes ++ kept
   pub read : new.read ≡ old.read + length kept
+  pub few : new.read + length lost ≤ 2 ^ 50
 
 -- More was read and kept, and as many bytes were read as are allowed.
 pub record IsSpent (before after : Option (List ℕ)) (old new : Pending) : Type 0 where

@@ -1,5 +1,5 @@
 -- What a replay of records reads and writes, by its end.
-use Rattle.std.specs.Prelude.{◌≡◌, ◌⊎◌, ◌^◌, codes, ℕ, List, [], ◌∷◌, ◌++◌, length, Option}
+use Rattle.std.specs.Prelude.{◌≡◌, ◌⊎◌, ◌^◌, ◌≤◌, codes, ℕ, List, [], ◌∷◌, ◌++◌, length, Option}
 use Rattle.casd_base.specs.Streams.{Takes, Adds, IsEnded}
 use Rattle.casd_server.specs.declared.records.End.{End}
 use Rattle.casd_server.specs.declared.records.End.TheVariants as ends
@@ -47,10 +47,12 @@ Answers ends.WriteFault input output left = IsPart input output
 Answers ends.OutOfMemory input output left = IsPart input output
 Answers ends.Spent input output left = IsPart input output × (length input ≡ 2 ^ 50)
 
--- There is an input that was taken from the source and an output that was added to the sink, of which all that holds.
+-- There is an input of at most 2^50 bytes that was taken from the source and an output that was added to the sink, of
+-- which all that holds.
 pub record Replays (left left' written written' : Option (List ℕ)) (end : End) : Type 0 where
   pub input : List ℕ
   pub output : List ℕ
+  pub bounded : length input ≤ 2 ^ 50
   pub takes : Takes left left' input
   pub adds : Adds written written' output
   pub answers : Answers end input output left'

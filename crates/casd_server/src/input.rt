@@ -97,7 +97,7 @@ fn append_block<S: Source>(
     ensures ok { IfOk result (Appends (S.left source.old) (S.left source.new) buffer.old.items buffer.new.items) }
     ensures bound { IfOk result (λ n. n ≤ length block.old) }
     ensures ended { IfOk result (λ n. n ≡ 0 → IsEnded (S.left source.new)) }
-    ensures err { OnErr result (Loses (S.left source.old) (S.left source.new)) }
+    ensures err { OnErr result (Loses (S.left source.old) (S.left source.new) (length block.old)) }
     ensures same { OnErr result (buffer.new.items ≡ buffer.old.items) }
     ensures not_spent { IfErr result (λ e. e ≢ Stop.Spent) }
     ensures later { S.read_faults source.old ≤ S.read_faults source.new }

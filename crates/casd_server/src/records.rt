@@ -194,11 +194,13 @@ fn step<S: Source, W: Sink>(
         }
         Found::End => {
             if input.pending().is_empty() {
+                seats.close_all();
                 return Ok(Some(End::Done));
             }
             if !answer(*alloc, seats, *number, input.pending(), sink)? {
                 return Ok(Some(End::Malformed));
             }
+            seats.close_all();
             Ok(Some(End::Done))
         }
         Found::TooLong => {

@@ -1,7 +1,7 @@
 //! `Seats`: the store of a replay, and the owner of each seat.
 
 ghost use Rattle.std.specs.Prelude.{◌≡◌, ◌-◌, ◌<◌, ◌^◌, IfOk, string_bytes};
-ghost use Rattle.casd_server.specs.Answer.{new_seated, opened, run_record, answer};
+ghost use Rattle.casd_server.specs.Answer.{closed_with, closed_below, owner_at, new_seated, opened, run_record, answer};
 ghost use Rattle.casd_server.specs.Record.{record_view};
 
 use crate::answer::answer_line;
@@ -63,6 +63,30 @@ impl Seats {
         self.core.step(0, &Event::Open)?;
         self.owners[seat as usize] = Some(owner);
         Ok(owner)
+    }
+
+    fn close(&mut self, seat: usize)
+        requires seat { seat < 100 }
+        requires count { self.old.core.next_owner < 2 ^ 64 - 1 }
+        ensures { self.new ≡ closed_with self.old seat (owner_at self.old seat) }
+    {
+        if let Some(owner) = self.owners[seat] {
+            // It takes no memory, and so it is answered.
+            if self.core.step(owner, &Event::Close).is_err() {
+                unreachable!();
+            }
+            self.owners[seat] = None;
+        }
+    }
+
+    /// Closes the owners of all seats, in the order of the seats. It takes no memory.
+    pub(crate) fn close_all(&mut self)
+        requires { self.old.core.next_owner < 2 ^ 64 - 1 }
+        ensures { self.new ≡ closed_below 100 self.old }
+    {
+        'seats: for seat in 0..SEATS {
+            self.close(seat);
+        }
     }
 
     /// Runs a record. After want of memory a part of it may have been done.

@@ -1,7 +1,8 @@
 use Rattle.std.proofs.Common.{◌+◌, ◌<◌, ◌≤◌, List, ℕ, length, sym, ap, subst, ◌∙◌, arith}
 use Rattle.casd_server.specs.Cut.{NoByte}
 use Rattle.casd_server.specs.Record.{max_line}
-use Rattle.casd_server.proofs.InputLemmas.{Searched, FirstNewline, first_newline, no_newline, begins-line, begins-long, begins-all_long, begins-end, ReadsMore-block, Searched-more}
+use Rattle.casd_server.proofs.InputLemmas.{Searched, FirstNewline, first_newline, no_newline, begins-line, begins-long, begins-all_long, begins-end, ReadsMore-block, LosesSome-block, Searched-more}
+use Rattle.casd_server.proofs.Streams.{OnErr-any}
 use Rattle.casd_server.proofs.input.Input.fill.Goals as goal
 
 pub search-preserved : goal.search-preserved
@@ -51,3 +52,7 @@ returns-then-branch-eq0-clause-begins g c =
     let few : length bytes ≤ max_line = c.if-searched-gt-MAX_LINE.false in
     begins-end (g.S.Source.left c.search.source) (g.S.Source.left c.read_more.new.source) c.search.self c.read_more.new.self c.in_ok-read_more.field-0
     (subst (NoByte 10) same none) (subst (λ (xs : List ℕ). length xs ≤ max_line) same few) c.in_ok-read_more.ensures.ok c.if-branch-eq0.true (c.in_ok-read_more.ensures.ended c.if-branch-eq0.true)
+
+pub returns-in_err-read_more-clause-err : goal.returns-in_err-read_more-clause-err
+returns-in_err-read_more-clause-err g c =
+    OnErr-any c.from_residual.result (LosesSome-block _ _ _ c.args.self.now c.search.self c.read_more.new.self c.search.invariant.reads c.in_err-read_more.ensures.err)
