@@ -54,24 +54,7 @@ closed_below (suc seat) s = closed_with (closed_below seat s) seat (owner_at (cl
 -- whether the word is the one that is built
 abbrev pub is_batch : Word → Bool
 is_batch words.BatchUpdateBlobs = true
-is_batch words.FindMissingBlobs = false
-is_batch words.BatchReadBlobs = false
-is_batch words.GetTree = false
-is_batch words.GetCapabilities = false
-is_batch words.Read = false
-is_batch words.Write = false
-is_batch words.QueryWriteStatus = false
-is_batch words.FetchMissingBlobs = false
-is_batch words.UploadMissingBlobs = false
-is_batch words.FetchTree = false
-is_batch words.UploadTree = false
-is_batch words.StageTree = false
-is_batch words.CaptureTree = false
-is_batch words.CaptureFiles = false
-is_batch words.EndStage = false
-is_batch words.Close = false
-is_batch words.Pass = false
-is_batch words.Usage = false
+is_batch _ = false
 
 -- a call of the store, with the seats as they are
 abbrev pub with_core : Seated → Result (List ℕ) Status × State → Result (List ℕ) Status × Seated

@@ -41,22 +41,9 @@ word_of text = find (λ w. pointwise nat_eq (name_of w) text) all_words
 -- Whether a record of this seat may have this word with so many messages: seat 0 has Pass and Usage alone, which no
 -- other seat has; these two, EndStage and Close have no message, StageTree has one, and the others have any number.
 unfoldable pub takes : ℕ → Word → ℕ → Bool
-takes seat words.FindMissingBlobs messages = not (seat == 0)
-takes seat words.BatchUpdateBlobs messages = not (seat == 0)
-takes seat words.BatchReadBlobs messages = not (seat == 0)
-takes seat words.GetTree messages = not (seat == 0)
-takes seat words.GetCapabilities messages = not (seat == 0)
-takes seat words.Read messages = not (seat == 0)
-takes seat words.Write messages = not (seat == 0)
-takes seat words.QueryWriteStatus messages = not (seat == 0)
-takes seat words.FetchMissingBlobs messages = not (seat == 0)
-takes seat words.UploadMissingBlobs messages = not (seat == 0)
-takes seat words.FetchTree messages = not (seat == 0)
-takes seat words.UploadTree messages = not (seat == 0)
-takes seat words.StageTree messages = not (seat == 0) && messages == 1
-takes seat words.CaptureTree messages = not (seat == 0)
-takes seat words.CaptureFiles messages = not (seat == 0)
-takes seat words.EndStage messages = not (seat == 0) && messages == 0
-takes seat words.Close messages = not (seat == 0) && messages == 0
 takes seat words.Pass messages = seat == 0 && messages == 0
 takes seat words.Usage messages = seat == 0 && messages == 0
+takes seat words.EndStage messages = not (seat == 0) && messages == 0
+takes seat words.Close messages = not (seat == 0) && messages == 0
+takes seat words.StageTree messages = not (seat == 0) && messages == 1
+takes seat _ messages = not (seat == 0)
