@@ -1,2 +1,5 @@
 pub mod HexText
 pub mod Written
+pub mod Decimals
+pub mod PrintedText
+pub mod ReadDigest

@@ -14,10 +14,10 @@ use Rattle.digest_types.specs.Digest.{IsDigest, spelled}
 use Rattle.digest_types.specs.Reading.{hash_of, made_of, meant_by, digest_in}
 use Rattle.digest_types.proofs.HexText.{unhex_of-again}
 
-encoded_len : (d : HashAndSize) → IsDigest d → length (encode_lower d.hash) ≡ 64
+pub encoded_len : (d : HashAndSize) → IsDigest d → length (encode_lower d.hash) ≡ 64
 encoded_len d is = omega (arith, length-encode_with lower_digits d.hash, is.len)
 
-hash_again : (d : HashAndSize) → IsDigest d → hash_of (encode_lower d.hash) ≡ Some d.hash
+pub hash_again : (d : HashAndSize) → IsDigest d → hash_of (encode_lower d.hash) ≡ Some d.hash
 unfolding hash_of
 hash_again d is = rw (encoded_len d is, unhex_of-again d.hash is.bytes) refl
 

@@ -3,3 +3,4 @@ pub mod Digest
 pub mod Hasher
 pub mod Hex
 pub mod Reading
+pub mod Parsing

@@ -23,6 +23,7 @@ Fails errors.OutOfMemory read = Unit {0}
 Fails (errors.Wire e) read = read ≡ Err (errors.Wire e)
 Fails errors.BadHash read = read ≡ Err errors.BadHash
 Fails errors.NegativeSize read = read ≡ Err errors.NegativeSize
+Fails errors.BadSize read = read ≡ Err errors.BadSize
 
 -- What a function of the code returned, seen by view, is what reading gives, unless memory ran out.
 abbrev pub Gives : {X Y : Type 0} → (X → Y) → Result X DigestError → Result Y DigestError → Type 0

@@ -1,9 +1,9 @@
 //! `Digest`.
 
 ghost use Rattle.std.specs.Prelude.{◌≡◌, ◌≤◌, ◌^◌, ◌<◌, [], length, IfOk};
-ghost use Rattle.digest_types.specs.Digest.{digest_of, printed};
+ghost use Rattle.digest_types.specs.Digest.{digest_of, IsDigest, printed};
 
-use proto_wire::{OutOfMemory, Text};
+use proto_wire::{Listed, OutOfMemory, Text};
 use sha2::Sha256;
 use std::alloc::Global;
 use std::marker::Model;
@@ -15,6 +15,9 @@ pub struct Digest {
     pub hash: [u8; 32],
     pub size: u64,
 }
+
+/// Digests, seen as the list of them.
+pub type Digests = Listed<Digest>;
 
 impl Model for Digest {
     ghost use Rattle.std.specs.Prelude.{◌<◌, ◌^◌};
@@ -34,7 +37,8 @@ impl Digest {
     #[tactic(auto, unfolding(crate::specs::Digest::digest_of))]
     pub fn of(bytes: &[u8]) -> Digest
         requires { length bytes.now ≤ 2 ^ 60 }
-        ensures { result ≡ digest_of bytes.now }
+        ensures value { result ≡ digest_of bytes.now }
+        ensures is { IsDigest result }
     {
         Digest {
             hash: <Sha256 as sha2::Digest>::digest(bytes),
@@ -44,7 +48,8 @@ impl Digest {
 
     /// The digest of no bytes. It takes no memory.
     pub fn empty() -> Digest
-        ensures { result ≡ digest_of [] }
+        ensures value { result ≡ digest_of [] }
+        ensures is { IsDigest result }
     {
         Digest::of(&[])
     }

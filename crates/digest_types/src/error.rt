@@ -7,7 +7,7 @@ ghost use Rattle.digest_types.specs.declared.error.DigestError.TheVariants.{OutO
 use proto_wire::{OutOfMemory, WireError};
 use std::alloc::{AllocError, AllocFailed};
 
-/// The first fault of a digest's message, in this order.
+/// The first fault of a digest's message or text, in this order.
 #[derive(Clone, Copy, Debug, PartialEq, Eq)]
 pub enum DigestError {
     /// The bytes are no row of fields.
@@ -16,6 +16,8 @@ pub enum DigestError {
     BadHash,
     /// The size is below 0.
     NegativeSize,
+    /// No size follows the hash of a text, or it is no decimal number of at most 2^63 - 1 without sign and leading zero.
+    BadSize,
     OutOfMemory,
 }
 

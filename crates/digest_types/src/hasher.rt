@@ -1,7 +1,7 @@
 //! `Hasher`.
 
 ghost use Rattle.std.specs.Prelude.{◌≡◌, ◌≤◌, ◌+◌, ◌^◌, ◌++◌, ℕ, List, [], length};
-ghost use Rattle.digest_types.specs.Digest.{digest_of};
+ghost use Rattle.digest_types.specs.Digest.{digest_of, IsDigest};
 ghost use Rattle.digest_types.specs.Hasher.{Holds, added_len};
 
 use crate::digest::Digest;
@@ -38,7 +38,8 @@ impl Hasher {
     #[tactic(auto, unfolding(crate::specs::Digest::digest_of))]
     pub fn finish(self) -> Digest
         requires { added_len self ≤ 2 ^ 60 }
-        ensures { (bytes : List ℕ) → Holds self bytes → result ≡ digest_of bytes }
+        ensures value { (bytes : List ℕ) → Holds self bytes → result ≡ digest_of bytes }
+        ensures is { IsDigest result }
     {
         let Hasher { inner, size } = self;
         Digest {

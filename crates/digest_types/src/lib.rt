@@ -8,8 +8,9 @@ mod hasher;
 pub mod laws;
 mod lower_hex;
 mod message;
+mod parse;
 
-pub use digest::Digest;
+pub use digest::{Digest, Digests};
 pub use error::DigestError;
 pub use hasher::Hasher;
 pub use lower_hex::unhex;

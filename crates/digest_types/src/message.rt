@@ -1,7 +1,8 @@
 //! The message of a digest.
 
-ghost use Rattle.std.specs.Prelude.{◌≡◌, IfOk};
-ghost use Rattle.digest_types.specs.Digest.{spelled};
+ghost use Rattle.std.specs.Prelude.{◌≡◌, IfOk, Ok};
+ghost use Rattle.hex.specs.Hex.{IsBytes, encode_lower};
+ghost use Rattle.digest_types.specs.Digest.{IsDigest, spelled};
 ghost use Rattle.digest_types.specs.Reading.{digest_in, Gives};
 
 use crate::digest::Digest;
@@ -10,12 +11,23 @@ use crate::lower_hex::hash_in;
 use proto_wire::{Bytes, OutOfMemory, Writer, fields, last_bytes, last_int};
 use std::alloc::Global;
 
+/// The text of a hash in lower-case hex.
+fn hash_text(hash: &[u8; 32]) -> [u8; 64]
+    ensures value { result ≡ encode_lower hash.now }
+    ensures bytes { IsBytes hash.now }
+{
+    let mut text = [0u8; 64];
+    let _ = hex::encode_to_slice(hash, &mut text);
+    text
+}
+
 impl Digest {
     /// The digest that the content of a Digest message spells: field 1 is the hash in lower-case hex,
     /// field 2 the size.
     #[tactic(auto, unfolding(crate::specs::Reading::digest_in))]
     pub fn read(alloc: Global, bytes: &[u8]) -> Result<Digest, DigestError>
-        ensures { Gives (λ d. d) result (digest_in bytes.now) }
+        ensures value { Gives (λ d. d) result (digest_in bytes.now) }
+        ensures is { IfOk result IsDigest }
     {
         let fields = fields(alloc, bytes)?;
         let Some(hash) = hash_in(last_bytes(&fields, 1).unwrap_or(&[])) else {
@@ -30,12 +42,13 @@ impl Digest {
 
     /// The canonical content of its message.
     pub fn write(&self, alloc: Global) -> Result<Bytes, OutOfMemory>
-        ensures { IfOk result (λ b. b ≡ spelled self.now) }
+        ensures value { IfOk result (λ b. b ≡ spelled self.now) }
+        ensures is { IsDigest self.now }
+        // What is written is read.
+        ensures again { IfOk result (λ b. digest_in b ≡ Ok self.now) }
     {
-        let mut hash = [0u8; 64];
-        let _ = hex::encode_to_slice(&self.hash, &mut hash);
         let mut out = Writer::new(alloc);
-        out.bytes(1, &hash)?;
+        out.bytes(1, &hash_text(&self.hash))?;
         if self.size != 0 {
             out.int(2, self.size)?;
         }

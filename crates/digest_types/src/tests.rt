@@ -30,6 +30,7 @@ fn a_digest_is_the_hash_and_the_size(rt: HostRuntime) -> Result<(), Fail> {
     for (digest, printed, message) in cases {
         let text = digest.print(rt.alloc()).ok().ok_or("memory")?;
         assert_eq!(rt; text.as_str().as_bytes(), printed);
+        assert_eq!(rt; Digest::parse(text.as_str()), Ok(digest));
         let written = digest.write(rt.alloc()).ok().ok_or("memory")?;
         assert_eq!(rt; written.as_slice(), message, "{printed:?}");
         assert_eq!(rt;
@@ -135,6 +136,54 @@ fn hex_text_is_in_lower_case(rt: HostRuntime) -> Result<(), Fail> {
             wanted,
             "{text:?}"
         );
+    }
+    Ok(())
+}
+
+#[test]
+fn a_text_is_parsed_or_refused(rt: HostRuntime) -> Result<(), Fail> {
+    // the hash of "abc"
+    let hash = "ba7816bf8f01cfea414140de5dae2223b00361a396177a9cb410ff61f20015ad";
+    let upper = "BA7816BF8F01CFEA414140DE5DAE2223B00361A396177A9CB410FF61F20015AD";
+    let short = "ba7816bf8f01cfea414140de5dae2223b00361a396177a9cb410ff61f20015a";
+    let three = Digest::of(b"abc");
+    let sum = three.hash;
+    let none = Digest { hash: sum, size: 0 };
+    let ten = Digest {
+        hash: sum,
+        size: 10,
+    };
+    let largest = Digest {
+        hash: sum,
+        size: 0x7fff_ffff_ffff_ffff,
+    };
+    let cases: [(&str, &str, Result<Digest, DigestError>); 21] = [
+        (hash, "/3", Ok(three)),
+        (hash, "/0", Ok(none)),
+        (hash, "/10", Ok(ten)),
+        (hash, "/9223372036854775807", Ok(largest)),
+        (hash, "", Err(DigestError::BadSize)),
+        (hash, "/", Err(DigestError::BadSize)),
+        (hash, "/03", Err(DigestError::BadSize)),
+        (hash, "/00", Err(DigestError::BadSize)),
+        (hash, "/+3", Err(DigestError::BadSize)),
+        (hash, "/-1", Err(DigestError::BadSize)),
+        (hash, "/3/", Err(DigestError::BadSize)),
+        (hash, "/ 3", Err(DigestError::BadSize)),
+        (hash, "/3\n", Err(DigestError::BadSize)),
+        (hash, "/9223372036854775808", Err(DigestError::BadSize)),
+        (hash, "/99999999999999999999999", Err(DigestError::BadSize)),
+        // The hash is what stands before the first slash, and it is looked at first.
+        (upper, "/3", Err(DigestError::BadHash)),
+        (upper, "/03", Err(DigestError::BadHash)),
+        (short, "/3", Err(DigestError::BadHash)),
+        (hash, "a/3", Err(DigestError::BadHash)),
+        ("", "", Err(DigestError::BadHash)),
+        ("", "/3", Err(DigestError::BadHash)),
+    ];
+    for (first, rest, wanted) in cases {
+        let text = format!(in rt.alloc(); "{first}{rest}")?;
+        assert_eq!(rt; Digest::parse(text.as_str()), wanted, "{first}{rest}");
     }
     Ok(())
 }

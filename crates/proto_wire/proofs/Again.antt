@@ -11,7 +11,7 @@ use Rattle.proto_wire.proofs.Bounds.{bound_ten}
 use Rattle.proto_wire.proofs.Varints.{varint_again}
 use Rattle.proto_wire.proofs.Shrinks.{fields_more}
 
-ten_again : (at n : ℕ) (front rest : List ℕ) → IsVarint front n → varint_at at 10 (front ++ rest) ≡ Ok (n, rest)
+pub ten_again : (at n : ℕ) (front rest : List ℕ) → IsVarint front n → varint_at at 10 (front ++ rest) ≡ Ok (n, rest)
 ten_again at n front rest v = varint_again at 10 front rest n v.groups v.short (omega (arith, v.small, bound_ten))
 
 fixed_again : (at n : ℕ) (w : Width) (front rest : List ℕ) → length front ≡ byte_len w → n ≡ from_le_bytes w front → fixed_at at w (front ++ rest) ≡ Ok (n, rest)
@@ -61,7 +61,7 @@ placed_again : (at : ℕ) (text first rest : List ℕ) (f : WireField) → IsSpe
 placed_again at text first rest f s place parts = subst (λ (k : ℕ). field_at k text ≡ Ok (f, rest)) place (ap (field_at f.at) parts ∙ field_again f.at first rest f s)
 
 -- a spelling has a byte
-some_groups : (text : List ℕ) (n : ℕ) → Groups text n → 0 < length text
+pub some_groups : (text : List ℕ) (n : ℕ) → Groups text n → 0 < length text
 some_groups [] n g = absurd g
 some_groups (b ∷ bs) n g = omega arith
 

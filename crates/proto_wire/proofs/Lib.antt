@@ -8,3 +8,5 @@ pub mod Found
 pub mod Again
 pub mod Spelled
 pub mod WireLaws
+pub mod PackedLoop
+pub mod PackedLaws

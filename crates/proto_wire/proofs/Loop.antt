@@ -3,22 +3,19 @@ use Rattle.std.proofs.Common.{◌≡◌, ℕ, ◌-◌, ◌<◌, Bool, true, fals
 use Rattle.std.proofs.lemmas.Bool.{eqb-true, eqb-false}
 use Rattle.std.proofs.lemmas.List.{append-nil}
 use Rattle.proto_wire.specs.declared.fault.WireError.{WireError}
-use Rattle.proto_wire.specs.declared.fault.WireError.TheVariants as errors
 use Rattle.proto_wire.specs.Field.{WireField}
 use Rattle.proto_wire.specs.Reading.{◌>>=◌, Fails, field_at, fields_in}
+use Rattle.proto_wire.specs.Packed.{with_front}
+use Rattle.proto_wire.proofs.Steps.{fails_along}
 use Rattle.proto_wire.proofs.Shrinks.{fields_more, fields_stop}
-
--- what was read before, and what is still read
-abbrev pub with_front : List WireField → Result (List WireField) WireError → Result (List WireField) WireError
-with_front front read = read >>= λ fs. Ok (front ++ fs)
 
 -- what was read before, and what is still read of the rest of so many bytes
 abbrev pub read_all : List WireField → ℕ → List ℕ → Result (List WireField) WireError
 read_all front whole rest = with_front front (fields_in (length rest) whole rest)
 
-regroup : (front : List WireField) (f : WireField) (read : Result (List WireField) WireError) → with_front front (read >>= λ fs. Ok (f ∷ fs)) ≡ with_front (front ++ f ∷ []) read
-regroup front f (Ok fs) = ap (λ (gs : List WireField). Ok gs) (sym (append_assoc front (f ∷ []) fs))
-regroup front f (Err e) = refl
+pub regroup : {A : Type 0} (front : List A) (x : A) (read : Result (List A) WireError) → with_front front (read >>= λ xs. Ok (x ∷ xs)) ≡ with_front (front ++ x ∷ []) read
+regroup {A = A} front x (Ok xs) = ap (λ (ys : List A). Ok ys) (sym (append_assoc front (x ∷ []) xs))
+regroup front x (Err e) = refl
 
 pub goes_on : (front : List WireField) (whole : ℕ) (rest after : List ℕ) (f : WireField) (total : Result (List WireField) WireError) → 0 < length rest → field_at (whole - length rest) rest ≡ Ok (f, after)
     → read_all front whole rest ≡ total → read_all (front ++ f ∷ []) whole after ≡ total
@@ -31,19 +28,15 @@ stops e front whole rest total lt h so_far = sym so_far ∙ ap (with_front front
 
 pub ends : (e : WireError) (front : List WireField) (whole : ℕ) (rest : List ℕ) (total : Result (List WireField) WireError) → 0 < length rest → Fails e (field_at (whole - length rest) rest)
     → read_all front whole rest ≡ total → Fails e total
-ends errors.OutOfMemory front whole rest total lt h so_far = tt
-ends (errors.Truncated at) front whole rest total lt h so_far = stops (errors.Truncated at) front whole rest total lt h so_far
-ends (errors.BadTag at) front whole rest total lt h so_far = stops (errors.BadTag at) front whole rest total lt h so_far
-ends (errors.BadVarint at) front whole rest total lt h so_far = stops (errors.BadVarint at) front whole rest total lt h so_far
-ends (errors.Group at) front whole rest total lt h so_far = stops (errors.Group at) front whole rest total lt h so_far
+ends e front whole rest total lt h so_far = fails_along e (field_at (whole - length rest) rest) total (λ fault. stops e front whole rest total lt fault so_far) h
 
 pub is_done : (front : List WireField) (whole : ℕ) (rest : List ℕ) (total : Result (List WireField) WireError) → length rest ≡ 0 → read_all front whole rest ≡ total → total ≡ Ok front
 unfolding fields_in
 is_done front whole [] total len so_far = sym so_far ∙ ap (λ (fs : List WireField). Ok fs) (append-nil front)
 is_done front whole (c ∷ cs) total len so_far = absurd (omega arith)
 
-same : (read : Result (List WireField) WireError) → with_front [] read ≡ read
-same (Ok fs) = refl
+pub same : {A : Type 0} (read : Result (List A) WireError) → with_front [] read ≡ read
+same (Ok xs) = refl
 same (Err e) = refl
 
 pub starts : (whole : ℕ) (text : List ℕ) → read_all [] whole text ≡ fields_in (length text) whole text

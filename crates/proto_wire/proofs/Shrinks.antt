@@ -10,7 +10,7 @@ use Rattle.proto_wire.specs.Field.{WireField, WireValue, int, fixed64, bytes, fi
 use Rattle.proto_wire.specs.Reading.{◌>>=◌, varint_at, fixed_at, tag_at, sized_at, value_at, field_at, fields_in}
 use Rattle.proto_wire.proofs.Steps.{bind_ok, bind_same, guard_ok, passed, chosen, ok_is}
 
-varint_shrinks : (at more : ℕ) (text : List ℕ) (x : ℕ × List ℕ) → varint_at at more text ≡ Ok x → length x.1 < length text
+pub varint_shrinks : (at more : ℕ) (text : List ℕ) (x : ℕ × List ℕ) → varint_at at more text ≡ Ok x → length x.1 < length text
 unfolding varint_at
 varint_shrinks at more [] x e = absurd cc
 varint_shrinks at more (b ∷ rest) x e =

@@ -1,7 +1,8 @@
 -- What follows from a reading that gave a value, step by step.
 use Rattle.std.proofs.Common.{◌≡◌, Bool, true, false, cond, ◌⊎◌, inl, inr, Result, Ok, Err, refl}
 use Rattle.proto_wire.specs.declared.fault.WireError.{WireError}
-use Rattle.proto_wire.specs.Reading.{◌>>=◌}
+use Rattle.proto_wire.specs.declared.fault.WireError.TheVariants as errors
+use Rattle.proto_wire.specs.Reading.{◌>>=◌, Fails}
 
 -- the value of a step that did not fail
 pub bind_ok : {A B : Type 0} (r : Result A WireError) (f : A → Result B WireError) (y : B) → (r >>= f) ≡ Ok y → (x : A) × (r ≡ Ok x) × (f x ≡ Ok y)
@@ -38,3 +39,11 @@ bind_same (Err d) f g same = refl
 pub bind_err : {A B : Type 0} (r : Result A WireError) (f : A → Result B WireError) (e : WireError) → (r >>= f) ≡ Err e → (r ≡ Err e) ⊎ ((x : A) × (r ≡ Ok x) × (f x ≡ Err e))
 bind_err (Ok x) f e h = inr (x, refl, h)
 bind_err (Err d) f e h = inl cc
+
+-- a refusal of one step refuses the whole, where each fault of the step is one of the whole
+pub fails_along : {A B : Type 0} (e : WireError) (r : Result A WireError) (total : Result B WireError) → (r ≡ Err e → total ≡ Err e) → Fails e r → Fails e total
+fails_along errors.OutOfMemory r total along h = tt
+fails_along (errors.Truncated at) r total along h = along h
+fails_along (errors.BadTag at) r total along h = along h
+fails_along (errors.BadVarint at) r total along h = along h
+fails_along (errors.Group at) r total along h = along h

@@ -3,3 +3,4 @@ pub mod Field
 pub mod Wire
 pub mod Reading
 pub mod Spelling
+pub mod Packed

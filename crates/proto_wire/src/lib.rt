@@ -7,9 +7,11 @@ mod fault;
 mod field;
 mod find;
 pub mod laws;
+mod listed;
 mod memory;
 mod name;
 mod read;
+mod repeated;
 mod utf8;
 mod write;
 
@@ -17,9 +19,11 @@ pub use bytes::Bytes;
 pub use fault::WireError;
 pub use field::{Field, Fields, Value};
 pub use find::{contents, joined, last_bytes, last_int, text};
+pub use listed::Listed;
 pub use memory::OutOfMemory;
 pub use name::Name;
 pub use read::fields;
+pub use repeated::{pack, packed};
 pub use utf8::Text;
 pub use write::Writer;
 

@@ -37,7 +37,7 @@ fn varint_in(at: usize, more: u8, bytes: &[u8]) -> Result<(u64, &[u8]), WireErro
     }
 }
 
-fn varint(at: usize, bytes: &[u8]) -> Result<(u64, &[u8]), WireError>
+pub(crate) fn varint(at: usize, bytes: &[u8]) -> Result<(u64, &[u8]), WireError>
     ensures { Gives (λ x. (x.0, x.1.now)) result (varint_at at 10 bytes.now) }
 {
     varint_in(at, 10, bytes)

@@ -208,3 +208,85 @@ fn texts_are_kept_in_place_or_on_the_heap(rt: HostRuntime) -> Result<(), Fail> {
     assert!(rt; Text::empty().is_empty());
     Ok(())
 }
+
+#[test]
+fn a_list_is_read_packed_or_not(rt: HostRuntime) -> Result<(), Fail> {
+    let cases: [(&[u8], &[u64]); 11] = [
+        (b"", &[]),
+        (b"\x08\x05\x08\xac\x02", &[5, 300]),
+        (b"\x0a\x03\x05\xac\x02", &[5, 300]),
+        (b"\x08\x05\x0a\x03\x06\xac\x02\x08\x07", &[5, 6, 300, 7]),
+        (b"\x0a\x01\x05\x0a\x01\x06", &[5, 6]),
+        (b"\x0a\x00", &[]),
+        // Longer than it has to be, and as large as it can be.
+        (b"\x0a\x02\x83\x00", &[3]),
+        (
+            b"\x0a\x0a\xff\xff\xff\xff\xff\xff\xff\xff\xff\x01",
+            &[0xffff_ffff_ffff_ffff],
+        ),
+        // Another number, whose content is no list.
+        (b"\x10\x05\x12\x01\x80\x08\x06", &[6]),
+        // Eight bytes and four bytes, which are no varints.
+        (
+            b"\x09\x05\x00\x00\x00\x00\x00\x00\x00\x08\x06\x0d\x07\x00\x00\x00",
+            &[6],
+        ),
+        (b"\x09\x05\x00\x00\x00\x00\x00\x00\x00", &[]),
+    ];
+    for (bytes, wanted) in cases {
+        let row = fields(rt.alloc(), bytes).ok().ok_or("a row of fields")?;
+        let numbers = packed(rt.alloc(), &row, 1).ok().ok_or("a list")?;
+        assert_eq!(rt; numbers.as_slice(), wanted, "{bytes:?}");
+    }
+    Ok(())
+}
+
+#[test]
+fn a_fault_of_a_packed_list_has_the_place_of_its_field(rt: HostRuntime) -> Result<(), Fail> {
+    let cases: [(&[u8], WireError); 6] = [
+        (b"\x0a\x01\x80", WireError::Truncated { at: 0 }),
+        (b"\x08\x05\x0a\x02\x05\x80", WireError::Truncated { at: 2 }),
+        // There are eleven bytes, and the tenth byte is 2.
+        (
+            b"\x08\x05\x0a\x0b\x80\x80\x80\x80\x80\x80\x80\x80\x80\x80\x00",
+            WireError::BadVarint { at: 2 },
+        ),
+        (
+            b"\x08\x05\x0a\x0a\xff\xff\xff\xff\xff\xff\xff\xff\xff\x02",
+            WireError::BadVarint { at: 2 },
+        ),
+        // The first fault counts, of the fields and within a field.
+        (
+            b"\x0a\x01\x80\x0a\x0a\xff\xff\xff\xff\xff\xff\xff\xff\xff\x02",
+            WireError::Truncated { at: 0 },
+        ),
+        (
+            b"\x0a\x0b\xff\xff\xff\xff\xff\xff\xff\xff\xff\x02\x80",
+            WireError::BadVarint { at: 0 },
+        ),
+    ];
+    for (bytes, fault) in cases {
+        let row = fields(rt.alloc(), bytes).ok().ok_or("a row of fields")?;
+        let refused = packed(rt.alloc(), &row, 1).err();
+        assert_eq!(rt; refused, Some(fault), "{bytes:?}");
+    }
+    Ok(())
+}
+
+#[test]
+fn a_list_is_packed_shortest(rt: HostRuntime) -> Result<(), Fail> {
+    let cases: [(&[u64], &[u8]); 4] = [
+        (&[], b""),
+        (&[0], b"\x00"),
+        (&[5, 300, 127, 128], b"\x05\xac\x02\x7f\x80\x01"),
+        (
+            &[0xffff_ffff_ffff_ffff, 1],
+            b"\xff\xff\xff\xff\xff\xff\xff\xff\xff\x01\x01",
+        ),
+    ];
+    for (numbers, wanted) in cases {
+        let content = pack(rt.alloc(), numbers).ok().ok_or("memory")?;
+        assert_eq!(rt; content.as_slice(), wanted, "{numbers:?}");
+    }
+    Ok(())
+}

@@ -22,7 +22,7 @@ fn push_groups(out: &mut Vec<u8>, more: u8, n: u64) -> Result<(), OutOfMemory>
     push_groups(out, more - 1, n / 128)
 }
 
-fn push_varint(out: &mut Vec<u8>, n: u64) -> Result<(), OutOfMemory>
+pub(crate) fn push_varint(out: &mut Vec<u8>, n: u64) -> Result<(), OutOfMemory>
     ensures ok { OnOk result (out.new.items ≡ out.old.items ++ varint n) }
     ensures err { OnErr result (Extends out.old.items out.new.items) }
 {
