@@ -1,0 +1,9 @@
+pub mod Texts
+pub mod Writing
+pub mod EachLemmas
+pub mod Casts
+pub mod Lists
+pub mod DigestShort
+pub mod Rows
+pub mod EachKind
+pub mod WrittenAgain

@@ -1,0 +1,10 @@
+use Rattle.std.proofs.Common.{◌≡◌, map, drop}
+use Rattle.proto_wire.specs.Field.{contents_of}
+use Rattle.cas_messages.specs.Meaning.{each, digest_from}
+use Rattle.cas_messages.proofs.EachLemmas.{with_front}
+use Rattle.cas_messages.proofs.get.digests_in.Given as goal
+
+abbrev pub invariant-contents : goal.invariant-contents
+invariant-contents l =
+    with_front l.digests.items (each (digest_from l.number) l.index (drop l.index (map (λ c. c.now) l.content-items)))
+    ≡ each (digest_from l.number) 0 (contents_of l.number l.fields)

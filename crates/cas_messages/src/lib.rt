@@ -1,0 +1,49 @@
+//! The messages of the calls (Remote Execution API v2, ByteStream, and the local calls), read and written by one table:
+//! what each field means, what an absent one is, and how it is spelled are told once for all of them.
+#![tactic(auto)]
+
+mod blobs;
+mod byte_stream;
+mod capabilities;
+mod capture;
+mod error;
+mod get;
+pub mod laws;
+mod message;
+mod put;
+mod stage;
+mod status;
+mod transfer;
+mod trees;
+
+pub use blobs::{
+    BatchReadBlobsRequest, BatchReadBlobsResponse, BatchReadBlobsResponseItem1,
+    BatchUpdateBlobsRequest, BatchUpdateBlobsRequestItem2, BatchUpdateBlobsResponse,
+    BatchUpdateBlobsResponseItem1, FindMissingBlobsRequest, FindMissingBlobsResponse,
+};
+pub use byte_stream::{
+    QueryWriteStatusRequest, QueryWriteStatusResponse, ReadRequest, ReadResponse, WriteRequest,
+    WriteResponse,
+};
+pub use capabilities::{CacheCapabilities, GetCapabilitiesRequest, SemVer, ServerCapabilities};
+pub use capture::{
+    CaptureFilesRequest, CaptureFilesResponse, CaptureFilesResponseItem1, CaptureTreeRequest,
+    CaptureTreeResponse, CaptureTreeResponseItem1,
+};
+pub use error::MessageError;
+pub use message::Message;
+pub use stage::{StageTreeRequest, StageTreeResponse};
+pub use status::RpcStatus;
+pub use transfer::{
+    FetchMissingBlobsRequest, FetchMissingBlobsResponse, FetchMissingBlobsResponseItem1,
+    FetchTreeRequest, FetchTreeResponse, UploadMissingBlobsRequest, UploadMissingBlobsResponse,
+    UploadMissingBlobsResponseItem1, UploadTreeRequest, UploadTreeResponse,
+};
+pub use trees::{GetTreeRequest, GetTreeResponse};
+
+#[cfg(test)]
+mod samples;
+#[cfg(test)]
+mod tests;
+#[cfg(test)]
+mod vectors;
