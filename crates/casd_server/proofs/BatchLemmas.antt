@@ -1,6 +1,7 @@
 -- Puts of a request, one after the other: what they leave as it was.
-use Rattle.std.proofs.Common.{◌≡◌, ℕ, ◌+◌, ◌^◌, ◌<◌, ◌≤◌, ◌∙◌, Bool, true, false, cond, ◌&&◌, List, [], ◌∷◌, ◌++◌, length, get_or, drop, Option, Some, None, Result, Ok, Err, refl, sym, ap, append_assoc, add-one, drop-cons, arith}
+use Rattle.std.proofs.Common.{◌≡◌, ℕ, ◌+◌, ◌^◌, ◌<◌, ◌≤◌, ◌∙◌, Bool, true, false, cond, ◌&&◌, List, [], ◌∷◌, ◌++◌, length, map, get_or, drop, Option, Some, None, Result, Ok, Err, refl, sym, ap, append_assoc, add-one, drop-cons, arith}
 use Rattle.std.specs.Prelude.{◌==◌, nat_le}
+use Rattle.std.specs.Int.{w32, cast_unsigned}
 use Rattle.std.specs.List.{AllByRecursion, list_all, sum_by}
 use Rattle.std.proofs.lemmas.Bool.{leb-true}
 use Rattle.std.proofs.lemmas.List.{append-nil, drop_all}
@@ -12,11 +13,18 @@ use Rattle.store_core.specs.declared.event.Event.TheVariants as events
 use Rattle.store_core.specs.declared.event.Reply.{Reply}
 use Rattle.store_core.specs.State.{State, row_of}
 use Rattle.store_core.specs.Step.{with_room, put_over, put, step}
-use Rattle.casd_server.specs.declared.message.MessageFault.{MessageFault}
-use Rattle.casd_server.specs.declared.message.UpdateItem.{UpdateItem}
-use Rattle.casd_server.specs.declared.message.UpdateAnswer.{UpdateAnswer}
-use Rattle.casd_server.specs.Message.{Update, update_of}
-use Rattle.casd_server.specs.Batch.{max_batch, is_built, put_item, put_items, update, batch_update}
+use Rattle.directory_canon.specs.declared.node.Edge.{Edge}
+use Rattle.directory_canon.specs.Links.{links}
+use Rattle.cas_messages.specs.Fault.{Gives}
+use Rattle.cas_messages.specs.declared.error.MessageError.{MessageError}
+use Rattle.cas_messages.specs.declared.error.MessageError.TheVariants as faults
+use Rattle.cas_messages.specs.declared.blobs.BatchUpdateBlobsRequest.{BatchUpdateBlobsRequest}
+use Rattle.cas_messages.specs.declared.blobs.BatchUpdateBlobsRequestItem2.{BatchUpdateBlobsRequestItem2 as UpdateItem}
+use Rattle.cas_messages.specs.declared.blobs.BatchUpdateBlobsResponseItem1.{BatchUpdateBlobsResponseItem1 as UpdateAnswer}
+use Rattle.cas_messages.specs.Meaning.{message_in}
+use Rattle.cas_messages.specs.Tables.{batch_update_blobs_request, batch_update_blobs_request_item2}
+use Rattle.cas_messages.specs.Table.{Value, ◌&◌}
+use Rattle.casd_server.specs.Batch.{Update, item_of, max_batch, is_built, rpc_of, put_item, put_items, update, update_by, update_in, update_view, batch_update}
 
 -- ---- the number of the next owner stays
 
@@ -31,27 +39,27 @@ one_if false x y n p q = q
 with_room-next_owner : (s : State) (size : ℕ) → (with_room s size).next_owner ≡ s.next_owner
 with_room-next_owner s size = one_if _ _ _ _ refl refl
 
-put_over-next_owner : (s : State) (d : HashAndSize) (row : Option Row) → (put_over s d row).1.next_owner ≡ s.next_owner
-put_over-next_owner s d (Some row) = refl
-put_over-next_owner s d None = kept_if {A = Reply} _ _ _ _ refl (with_room-next_owner s d.size)
+put_over-next_owner : (s : State) (d : HashAndSize) (edges : Option (List Edge)) (row : Option Row) → (put_over s d edges row).1.next_owner ≡ s.next_owner
+put_over-next_owner s d edges (Some row) = refl
+put_over-next_owner s d edges None = kept_if {A = Reply} _ _ _ _ refl (with_room-next_owner s d.size)
 
-put-next_owner : (s : State) (d : HashAndSize) → (put s d).1.next_owner ≡ s.next_owner
-put-next_owner s d = kept_if {A = Reply} _ _ _ _ refl (put_over-next_owner s d (row_of d s.rows))
+put-next_owner : (s : State) (d : HashAndSize) (edges : Option (List Edge)) → (put s d edges).1.next_owner ≡ s.next_owner
+put-next_owner s d edges = kept_if {A = Reply} _ _ _ _ refl (put_over-next_owner s d edges (row_of d s.rows))
 
-step-put-next_owner : (s : State) (owner : ℕ) (d : HashAndSize) → (step s owner (events.Put d)).1.next_owner ≡ s.next_owner
+step-put-next_owner : (s : State) (owner : ℕ) (d : HashAndSize) (edges : Option (List Edge)) → (step s owner (events.Put d edges)).1.next_owner ≡ s.next_owner
 unfolding step
-step-put-next_owner s owner d = kept_if {A = Reply} _ _ _ _ (put-next_owner s d) refl
+step-put-next_owner s owner d edges = kept_if {A = Reply} _ _ _ _ (put-next_owner s d edges) refl
 
 pub put_item-next_owner : (s : State) (owner : ℕ) (item : UpdateItem) → (put_item s owner item).1.next_owner ≡ s.next_owner
 unfolding put_item
-put_item-next_owner s owner item = kept_if {A = Status} _ _ _ _ (step-put-next_owner s owner item.digest) refl
+put_item-next_owner s owner item = kept_if {A = Status} _ _ _ _ (step-put-next_owner s owner item.digest (links item.bytes)) refl
 
 pub put_items-next_owner : (s : State) (owner : ℕ) (items : List UpdateItem) → (put_items s owner items).1.next_owner ≡ s.next_owner
 unfolding put_items
 put_items-next_owner s owner [] = refl
 put_items-next_owner s owner (item ∷ items) = put_items-next_owner (put_item s owner item).1 owner items ∙ put_item-next_owner s owner item
 
-update-next_owner : (s : State) (owner : ℕ) (read : Result Update MessageFault) → (update s owner read).1.next_owner ≡ s.next_owner
+update-next_owner : (s : State) (owner : ℕ) (read : Result Update MessageError) → (update s owner read).1.next_owner ≡ s.next_owner
 unfolding update
 update-next_owner s owner (Err e) = refl
 update-next_owner s owner (Ok r) = kept_if {A = Result (List ℕ) Status} _ _ _ _ (put_items-next_owner s owner r.items) refl
@@ -60,7 +68,7 @@ update-next_owner s owner (Ok r) = kept_if {A = Result (List ℕ) Status} _ _ _ 
 pub batch_update-next_owner : (s : State) (owner : ℕ) (messages : List (List ℕ)) → (batch_update s owner messages).1.next_owner ≡ s.next_owner
 unfolding batch_update
 batch_update-next_owner s owner [] = refl
-batch_update-next_owner s owner (message ∷ []) = update-next_owner s owner (update_of message)
+batch_update-next_owner s owner (message ∷ []) = update-next_owner s owner (update_in message)
 batch_update-next_owner s owner (message ∷ next ∷ more) = refl
 
 -- ---- items that are put one after the other, as a loop does
@@ -71,16 +79,16 @@ put_after front put = (front ++ put.0, put.1)
 
 -- an item was put, and the rest goes on
 pub put_goes_on : (front : List UpdateAnswer) (s after : State) (owner : ℕ) (items : List UpdateItem) (i : ℕ) (item : UpdateItem) (status : Status) (total : List UpdateAnswer × State) → i < length items → item ≡ get_or items i item
-    → (status, after) ≡ put_item s owner item → put_after front (put_items s owner (drop i items)) ≡ total → put_after (front ++ record { digest = item.digest; status = status } ∷ []) (put_items after owner (drop (i + 1) items)) ≡ total
+    → (status, after) ≡ put_item s owner item → put_after front (put_items s owner (drop i items)) ≡ total → put_after (front ++ record { digest = item.digest; status = rpc_of status } ∷ []) (put_items after owner (drop (i + 1) items)) ≡ total
 unfolding put_items
 put_goes_on front s after owner items i item status total lt is h so_far =
     let opened : drop i items ≡ item ∷ drop (i + 1) items = rw (add-one, drop-cons items i item lt, ← is) refl in
     let more = drop (i + 1) items in
     let rest = put_items after owner more in
-    let answer : UpdateAnswer = record { digest = item.digest; status = status } in
+    let answer : UpdateAnswer = record { digest = item.digest; status = rpc_of status } in
     let first : put_items s owner (drop i items) ≡ (answer ∷ rest.0, rest.1) =
     ap (put_items s owner) opened
-    ∙ ap (λ (x : Status × State). (record { digest = item.digest; status = x.0 } ∷ (put_items x.1 owner more).0, (put_items x.1 owner more).1)) (sym h)
+    ∙ ap (λ (x : Status × State). (record { digest = item.digest; status = rpc_of x.0 } ∷ (put_items x.1 owner more).0, (put_items x.1 owner more).1)) (sym h)
     in
     sym (ap (put_after front) first ∙ ap (λ (answers : List UpdateAnswer). (answers, rest.1)) (sym (append_assoc front (answer ∷ []) rest.0))) ∙ so_far
 
@@ -111,6 +119,30 @@ last_holds false b h = absurd cc
 pub built_small : (r : Update) → is_built r ≡ true → AllByRecursion (λ item. length item.bytes ≤ 2 ^ 60) r.items
 built_small r h =
     let size = sum_by (λ (item : UpdateItem). length item.bytes) r.items in
-    let others = nat_le r.digest_function 1 && list_all (λ (item : UpdateItem). item.compressor == 0) r.items in
+    let others = nat_le (cast_unsigned w32 r.digest_function) 1 && list_all (λ (item : UpdateItem). cast_unsigned w32 item.compressor == 0) r.items in
     let within : size ≤ max_batch = leb-true size max_batch (last_holds others (nat_le size max_batch) h) in
     each_smaller max_batch (2 ^ 60) r.items (omega arith) (each_small max_batch r.items within)
+
+-- ---- the items of a request, by the values of their fields
+
+abbrev pub item_value : UpdateItem → Value batch_update_blobs_request_item2
+item_value item = item.digest & item.bytes & item.compressor & tt
+
+pub items_again : (items : List UpdateItem) → map item_of (map item_value items) ≡ items
+items_again [] = refl
+items_again (item ∷ items) = ap (λ (others : List UpdateItem). item ∷ others) (items_again items)
+
+abbrev pub request_value : BatchUpdateBlobsRequest → Value batch_update_blobs_request
+request_value r = r.instance_name & map item_value r.requests.items & r.digest_function & tt
+
+viewed_by : (r : Result BatchUpdateBlobsRequest MessageError) (m : Result (Value batch_update_blobs_request) MessageError) → Gives request_value r m → Gives update_view r (update_by m)
+viewed_by (Ok r) m h = ap update_by h ∙ ap (λ (items : List UpdateItem). Ok (record { items = items; digest_function = r.digest_function })) (items_again r.requests.items)
+viewed_by (Err faults.OutOfMemory) m h = tt
+viewed_by (Err (faults.Wire field e)) m h = ap update_by h
+viewed_by (Err (faults.NotUtf8 field)) m h = ap update_by h
+viewed_by (Err (faults.BadDigest field index)) m h = ap update_by h
+
+-- a request that was read is seen by its items and its digest function
+pub viewed : (r : Result BatchUpdateBlobsRequest MessageError) (message : List ℕ) → Gives request_value r (message_in batch_update_blobs_request message) → Gives update_view r (update_in message)
+unfolding update_in
+viewed r message h = viewed_by r (message_in batch_update_blobs_request message) h

@@ -4,7 +4,6 @@ pub mod WordLemmas
 pub mod SeatLemmas
 pub mod HexMessages
 pub mod RecordLemmas
-pub mod MessageLemmas
 pub mod BatchLemmas
 pub mod Streams
 pub mod InputLemmas

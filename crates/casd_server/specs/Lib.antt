@@ -1,8 +1,6 @@
 pub mod Word
 pub mod Cut
 pub mod Record
-pub mod Wire
-pub mod Message
 pub mod Batch
 pub mod Answer
 pub mod Run

@@ -2,12 +2,16 @@
 
 ghost use Rattle.std.specs.Prelude.{◌≡◌, ◌-◌, ◌<◌, ◌≤◌, ◌^◌, IfOk, length, Result, Ok};
 ghost use Rattle.std.specs.List.{AllByRecursion};
-ghost use Rattle.casd_server.specs.Batch.{mismatch, put_status, put_item, put_items, is_built, update, batch_update};
-ghost use Rattle.casd_server.specs.Message.{update_view, update_of};
+ghost use Rattle.cas_messages.specs.Fault.{Gives};
+ghost use Rattle.casd_server.specs.Batch.{mismatch, put_status, put_item, put_items, is_built, update, update_view, update_in, batch_update, rpc_of};
 
-use crate::message::{MessageFault, UpdateAnswer, UpdateItem, UpdateRequest, write_response};
+use cas_messages::{
+    BatchUpdateBlobsRequest, BatchUpdateBlobsRequestItem2, BatchUpdateBlobsResponse,
+    BatchUpdateBlobsResponseItem1, Message, MessageError, RpcStatus,
+};
 use casd_base::{Code, Status};
 use digest_types::Digest;
+use directory_canon::links_of;
 use proto_wire::{Bytes, OutOfMemory, Text};
 use std::alloc::Global;
 use store_core::{Core, Event, Reply};
@@ -75,7 +79,7 @@ fn put_one(
     alloc: Global,
     core: &mut Core,
     owner: u64,
-    item: &UpdateItem,
+    item: &BatchUpdateBlobsRequestItem2,
 ) -> Result<Status, OutOfMemory>
     requires small { length item.now.bytes ≤ 2 ^ 60 }
     requires count { core.old.next_owner < 2 ^ 64 - 1 }
@@ -85,16 +89,28 @@ fn put_one(
     if got != item.digest {
         return mismatch_of(alloc, &item.digest, &got);
     }
-    let reply = core.step(owner, &Event::Put { digest: got })?;
+    let edges = links_of(alloc, item.bytes.as_slice())?;
+    let reply = core.step(owner, &Event::Put { digest: got, edges })?;
     status_of(alloc, &reply)
+}
+
+// A status as it stands in a message.
+fn rpc_status(status: Status) -> RpcStatus
+    ensures { result ≡ rpc_of status }
+{
+    let Status { code, text } = status;
+    RpcStatus {
+        code: i32::from(code.number()),
+        message: text,
+    }
 }
 
 fn put_all(
     alloc: Global,
     core: &mut Core,
     owner: u64,
-    items: &[UpdateItem],
-) -> Result<Vec<UpdateAnswer>, OutOfMemory>
+    items: &[BatchUpdateBlobsRequestItem2],
+) -> Result<Vec<BatchUpdateBlobsResponseItem1>, OutOfMemory>
     requires small { AllByRecursion (λ item. length item.bytes ≤ 2 ^ 60) items.now }
     requires count { core.old.next_owner < 2 ^ 64 - 1 }
     ensures { IfOk result (λ v. (v.items, core.new) ≡ put_items core.old owner items.now) }
@@ -102,20 +118,20 @@ fn put_all(
     let mut answers = Vec::new(alloc);
     'items: for item in items {
         let status = put_one(alloc, core, owner, item)?;
-        answers.push(UpdateAnswer {
+        answers.push(BatchUpdateBlobsResponseItem1 {
             digest: item.digest,
-            status,
+            status: rpc_status(status),
         })?;
     }
     Ok(answers)
 }
 
-fn is_built_request(request: &UpdateRequest) -> bool
+fn is_built_request(request: &BatchUpdateBlobsRequest) -> bool
     ensures { result ≡ is_built (update_view request.now) }
 {
     let mut size = 0;
-    for item in &request.items {
-        if item.compressor != 0 {
+    for item in &request.requests {
+        if item.compressor.cast_unsigned() != 0 {
             return false;
         }
         let len = item.bytes.len() as u64;
@@ -124,7 +140,7 @@ fn is_built_request(request: &UpdateRequest) -> bool
         }
         size += len;
     }
-    request.digest_function <= 1
+    request.digest_function.cast_unsigned() <= 1
 }
 
 #[tactic(auto, unfolding(crate::specs::Batch::update))]
@@ -132,7 +148,7 @@ fn update_with(
     alloc: Global,
     core: &mut Core,
     owner: u64,
-    request: &UpdateRequest,
+    request: &BatchUpdateBlobsRequest,
 ) -> Result<Answer, OutOfMemory>
     requires count { core.old.next_owner < 2 ^ 64 - 1 }
     ensures { IfOk result (λ a. (a, core.new) ≡ update core.old owner (Ok (update_view request.now))) }
@@ -143,8 +159,17 @@ fn update_with(
             text: Text::short("not built"),
         }));
     }
-    let answers = put_all(alloc, core, owner, &request.items)?;
-    Ok(Ok(write_response(alloc, &answers)?))
+    let responses = put_all(alloc, core, owner, &request.requests)?;
+    let response = BatchUpdateBlobsResponse { responses };
+    Ok(Ok(response.write(alloc)?))
+}
+
+// The request that a message spells.
+#[tactic(auto, using(crate::proofs::BatchLemmas::viewed))]
+fn read(alloc: Global, bytes: &[u8]) -> Result<BatchUpdateBlobsRequest, MessageError>
+    ensures { Gives update_view result (update_in bytes.now) }
+{
+    BatchUpdateBlobsRequest::read(alloc, bytes)
 }
 
 /// One call with its messages, of which it takes one: each blob of the request is put if its bytes have its digest.
@@ -164,10 +189,12 @@ pub(crate) fn call(
         [message] => message,
         _ => return Ok(Err(invalid("more than one message"))),
     };
-    match UpdateRequest::read(alloc, message.as_slice()) {
+    match read(alloc, message.as_slice()) {
         Ok(request) => update_with(alloc, core, owner, &request),
-        Err(MessageFault::Malformed) => Ok(Err(invalid("bad message"))),
-        Err(MessageFault::BadDigest) => Ok(Err(invalid("bad digest"))),
-        Err(MessageFault::OutOfMemory) => Err(OutOfMemory),
+        Err(MessageError::Wire { .. } | MessageError::NotUtf8 { .. }) => {
+            Ok(Err(invalid("bad message")))
+        }
+        Err(MessageError::BadDigest { .. }) => Ok(Err(invalid("bad digest"))),
+        Err(MessageError::OutOfMemory) => Err(OutOfMemory),
     }
 }

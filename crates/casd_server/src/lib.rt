@@ -6,7 +6,6 @@ mod answer;
 mod batch;
 mod cut;
 mod input;
-mod message;
 mod output;
 mod parse;
 mod record_line;

@@ -5,6 +5,7 @@ use Rattle.std.proofs.lemmas.Bool.{ltb-false}
 use Rattle.std.proofs.lemmas.List.Sums.{sum_by_push}
 use Rattle.digest_types.specs.Name.{HashAndSize}
 use Rattle.digest_types.specs.Digest.{digest_of}
+use Rattle.directory_canon.specs.declared.node.Edge.{Edge}
 use Rattle.store_core.specs.declared.state.Row.{Row}
 use Rattle.store_core.specs.declared.event.Event.{Event}
 use Rattle.store_core.specs.declared.event.Event.TheVariants as events
@@ -47,31 +48,31 @@ kept_closed s owner k = record { valid = valid_closed s owner k.valid; within = 
 
 -- ---- rows
 
-abbrev pub sound_row : HashAndSize → Row
-sound_row d = record { digest = d; sound = true }
+abbrev pub sound_row : HashAndSize → Option (List Edge) → Row
+sound_row d edges = record { digest = d; edges = edges; sound = true }
 
--- a blob with a row was put again
-abbrev pub renewed : State → HashAndSize → State
-renewed s d = with_row (record s { rows = others d s.rows }) (sound_row d)
+-- a blob with a row was put again, whose edges these are
+abbrev pub renewed : State → HashAndSize → Option (List Edge) → State
+renewed s d edges = with_row (record s { rows = others d s.rows }) (sound_row d edges)
 
-pub valid_renewed : (s : State) (d : HashAndSize) (row : Row) → row_of d s.rows ≡ Some row → Valid s → Valid (renewed s d)
-valid_renewed s d row e v =
+pub valid_renewed : (s : State) (d : HashAndSize) (edges : Option (List Edge)) (row : Row) → row_of d s.rows ≡ Some row → Valid s → Valid (renewed s d edges)
+valid_renewed s d edges row e v =
     let f = found d s.rows row e in
     let filled : d ≢ digest_of [] = λ q. among (λ r. r.digest ≢ digest_of []) d s.rows row e v.filled (f.digest ∙ q) in
     record {
-      distinct = distinct_push (others d s.rows) (sound_row d) (distinct_filter (λ r. not (is_of d r)) s.rows v.distinct) (others_differ d s.rows);
-      filled = every_push (λ r. r.digest ≢ digest_of []) (others d s.rows) (sound_row d) (every_filter (λ r. r.digest ≢ digest_of []) (λ r. not (is_of d r)) s.rows v.filled) filled;
+      distinct = distinct_push (others d s.rows) (sound_row d edges) (distinct_filter (λ r. not (is_of d r)) s.rows v.distinct) (others_differ d s.rows);
+      filled = every_push (λ r. r.digest ≢ digest_of []) (others d s.rows) (sound_row d edges) (every_filter (λ r. r.digest ≢ digest_of []) (λ r. not (is_of d r)) s.rows v.filled) filled;
       owners = v.owners;
     }
 
-pub within_renewed : (s : State) (d : HashAndSize) (row : Row) → row_of d s.rows ≡ Some row → used s ≤ s.high → used (renewed s d) ≤ s.high
-within_renewed s d row e h =
+pub within_renewed : (s : State) (d : HashAndSize) (edges : Option (List Edge)) (row : Row) → row_of d s.rows ≡ Some row → used s ≤ s.high → used (renewed s d edges) ≤ s.high
+within_renewed s d edges row e h =
     let f = found d s.rows row e in
-    let all = sum_by_push (λ (r : Row). r.digest.size) (others d s.rows) (sound_row d) in
+    let all = sum_by_push (λ (r : Row). r.digest.size) (others d s.rows) (sound_row d edges) in
     omega (arith, f.bytes)
 
-pub kept_renewed : (s : State) (d : HashAndSize) (row : Row) → row_of d s.rows ≡ Some row → IsKept s → IsKept (renewed s d)
-kept_renewed s d row e k = record { valid = valid_renewed s d row e k.valid; within = within_renewed s d row e k.within }
+pub kept_renewed : (s : State) (d : HashAndSize) (edges : Option (List Edge)) (row : Row) → row_of d s.rows ≡ Some row → IsKept s → IsKept (renewed s d edges)
+kept_renewed s d edges row e k = record { valid = valid_renewed s d edges row e k.valid; within = within_renewed s d edges row e k.within }
 
 -- how many rows go for so many bytes more
 abbrev pub room_count : State → ℕ → ℕ
@@ -108,28 +109,28 @@ pub room_fits : (s : State) (size : ℕ) → size ≤ s.high → sizes (drop (ro
 room_fits s size fits = fits_by s size (nat_lt s.high (used s + size)) refl fits
 
 -- a blob with no row was put
-abbrev pub added : State → HashAndSize → State
-added s d = record s { rows = drop (room_count s d.size) s.rows ++ sound_row d ∷ [] }
+abbrev pub added : State → HashAndSize → Option (List Edge) → State
+added s d edges = record s { rows = drop (room_count s d.size) s.rows ++ sound_row d edges ∷ [] }
 
-pub added_is : (s : State) (d : HashAndSize) → with_row (with_room s d.size) (sound_row d) ≡ added s d
-added_is s d = ap (λ (t : State). with_row t (sound_row d)) (room_is s d.size)
+pub added_is : (s : State) (d : HashAndSize) (edges : Option (List Edge)) → with_row (with_room s d.size) (sound_row d edges) ≡ added s d edges
+added_is s d edges = ap (λ (t : State). with_row t (sound_row d edges)) (room_is s d.size)
 
-pub valid_added : (s : State) (d : HashAndSize) → row_of d s.rows ≡ None → d ≢ digest_of [] → Valid s → Valid (added s d)
-valid_added s d e filled v =
+pub valid_added : (s : State) (d : HashAndSize) (edges : Option (List Edge)) → row_of d s.rows ≡ None → d ≢ digest_of [] → Valid s → Valid (added s d edges)
+valid_added s d edges e filled v =
     let n = room_count s d.size in
     record {
-      distinct = distinct_push (drop n s.rows) (sound_row d) (distinct_drop n s.rows v.distinct) (every_drop (λ r. r.digest ≢ d) n s.rows (absent d s.rows e));
-      filled = every_push (λ r. r.digest ≢ digest_of []) (drop n s.rows) (sound_row d) (every_drop (λ r. r.digest ≢ digest_of []) n s.rows v.filled) filled;
+      distinct = distinct_push (drop n s.rows) (sound_row d edges) (distinct_drop n s.rows v.distinct) (every_drop (λ r. r.digest ≢ d) n s.rows (absent d s.rows e));
+      filled = every_push (λ r. r.digest ≢ digest_of []) (drop n s.rows) (sound_row d edges) (every_drop (λ r. r.digest ≢ digest_of []) n s.rows v.filled) filled;
       owners = v.owners;
     }
 
-pub within_added : (s : State) (d : HashAndSize) → d.size ≤ s.high → used (added s d) ≤ s.high
-within_added s d fits =
-    let all = sum_by_push (λ (r : Row). r.digest.size) (drop (room_count s d.size) s.rows) (sound_row d) in
+pub within_added : (s : State) (d : HashAndSize) (edges : Option (List Edge)) → d.size ≤ s.high → used (added s d edges) ≤ s.high
+within_added s d edges fits =
+    let all = sum_by_push (λ (r : Row). r.digest.size) (drop (room_count s d.size) s.rows) (sound_row d edges) in
     omega (arith, room_fits s d.size fits)
 
-pub kept_added : (s : State) (d : HashAndSize) → row_of d s.rows ≡ None → d ≢ digest_of [] → d.size ≤ s.high → IsKept s → IsKept (added s d)
-kept_added s d e filled fits k = record { valid = valid_added s d e filled k.valid; within = within_added s d fits }
+pub kept_added : (s : State) (d : HashAndSize) (edges : Option (List Edge)) → row_of d s.rows ≡ None → d ≢ digest_of [] → d.size ≤ s.high → IsKept s → IsKept (added s d edges)
+kept_added s d edges e filled fits k = record { valid = valid_added s d edges e filled k.valid; within = within_added s d edges fits }
 
 -- ---- a step
 
@@ -138,45 +139,45 @@ chosen : (P : State → Type 0) (b : Bool) (x y : Reply × State) → (b ≡ tru
 chosen P true x y p q = p refl
 chosen P false x y p q = q refl
 
-put_over_by : (P : State → Type 0) (s : State) (d : HashAndSize) (o : Option Row)
+put_over_by : (P : State → Type 0) (s : State) (d : HashAndSize) (edges : Option (List Edge)) (o : Option Row)
     → P s → ((row : Row) → o ≡ Some row → P (with_row (record s { rows = others d s.rows }) (record row { sound = true })))
-    → (o ≡ None → d.size ≤ s.high → P (with_row (with_room s d.size) (sound_row d)))
-    → P (put_over s d o).1
-put_over_by P s d (Some row) same again new = again row refl
-put_over_by P s d None same again new =
+    → (o ≡ None → d.size ≤ s.high → P (with_row (with_room s d.size) (sound_row d edges)))
+    → P (put_over s d edges o).1
+put_over_by P s d edges (Some row) same again new = again row refl
+put_over_by P s d edges None same again new =
     chosen P (nat_lt s.high (guarded s + d.size)) (replies.NoSpace (guarded s) d.size s.high, s) _ (λ _. same) (λ e. new refl (let small = ltb-false _ _ e in omega arith))
 
 -- the states that a step may give
 pub step_by : (P : State → Type 0) (s : State) (owner : ℕ) (event : Event)
     → P s → P (opened s) → P (closed s owner)
-    → ((d : HashAndSize) (row : Row) → row_of d s.rows ≡ Some row → P (renewed s d))
-    → ((d : HashAndSize) → row_of d s.rows ≡ None → d ≢ digest_of [] → d.size ≤ s.high → P (added s d))
+    → ((d : HashAndSize) (row : Row) → row_of d s.rows ≡ Some row → P (renewed s d row.edges))
+    → ((d : HashAndSize) (edges : Option (List Edge)) → row_of d s.rows ≡ None → d ≢ digest_of [] → d.size ≤ s.high → P (added s d edges))
     → P (step s owner event).1
 unfolding step
 step_by P s owner events.Open here came went again new = came
-step_by P s owner (events.Put d) here came went again new =
-    chosen P (is_open s owner) (put s d) (replies.Refused, s)
-    (λ _. chosen P (same d (digest_of [])) (replies.Present, s) (put_over s d (row_of d s.rows)) (λ _. here) (λ other.
-    put_over_by P s d (row_of d s.rows) here
-    (λ row e. subst (λ (x : HashAndSize). P (with_row (record s { rows = others d s.rows }) (record { digest = x; sound = true }))) (sym (found d s.rows row e).digest) (again d row e))
-    (λ e fits. subst P (sym (added_is s d)) (new d e (other_from_not_same d (digest_of []) other) fits))))
+step_by P s owner (events.Put d edges) here came went again new =
+    chosen P (is_open s owner) (put s d edges) (replies.Refused, s)
+    (λ _. chosen P (same d (digest_of [])) (replies.Present, s) (put_over s d edges (row_of d s.rows)) (λ _. here) (λ other.
+    put_over_by P s d edges (row_of d s.rows) here
+    (λ row e. subst (λ (x : HashAndSize). P (with_row (record s { rows = others d s.rows }) (sound_row x row.edges))) (sym (found d s.rows row e).digest) (again d row e))
+    (λ e fits. subst P (sym (added_is s d edges)) (new d edges e (other_from_not_same d (digest_of []) other) fits))))
     (λ _. here)
 step_by P s owner events.Close here came went again new =
     chosen P (is_open s owner) (replies.Closed, closed s owner) (replies.Refused, s) (λ _. went) (λ _. here)
 
 pub valid_step : (s : State) (owner : ℕ) (event : Event) → Valid s → Valid (step s owner event).1
 valid_step s owner event v =
-    step_by Valid s owner event v (valid_opened s v) (valid_closed s owner v) (λ d row e. valid_renewed s d row e v) (λ d e filled fits. valid_added s d e filled v)
+    step_by Valid s owner event v (valid_opened s v) (valid_closed s owner v) (λ d row e. valid_renewed s d row.edges row e v) (λ d edges e filled fits. valid_added s d edges e filled v)
 
 pub within_step : (s : State) (owner : ℕ) (event : Event) → used s ≤ s.high → used (step s owner event).1 ≤ s.high
 within_step s owner event h =
-    step_by (λ t. used t ≤ s.high) s owner event h h h (λ d row e. within_renewed s d row e h) (λ d e filled fits. within_added s d fits)
+    step_by (λ t. used t ≤ s.high) s owner event h h h (λ d row e. within_renewed s d row.edges row e h) (λ d edges e filled fits. within_added s d edges fits)
 
 pub marks_step : (s : State) (owner : ℕ) (event : Event) → ((step s owner event).1.low ≡ s.low) × ((step s owner event).1.high ≡ s.high)
 marks_step s owner event =
-    step_by (λ t. (t.low ≡ s.low) × (t.high ≡ s.high)) s owner event (refl, refl) (refl, refl) (refl, refl) (λ d row e. (refl, refl)) (λ d e filled fits. (refl, refl))
+    step_by (λ t. (t.low ≡ s.low) × (t.high ≡ s.high)) s owner event (refl, refl) (refl, refl) (refl, refl) (λ d row e. (refl, refl)) (λ d edges e filled fits. (refl, refl))
 
 -- a step makes at most one owner
 pub next_owner_step : (s : State) (owner : ℕ) (event : Event) → (step s owner event).1.next_owner ≤ s.next_owner + 1
 next_owner_step s owner event =
-    step_by (λ t. t.next_owner ≤ s.next_owner + 1) s owner event (omega arith) (omega arith) (omega arith) (λ d row e. omega arith) (λ d e filled fits. omega arith)
+    step_by (λ t. t.next_owner ≤ s.next_owner + 1) s owner event (omega arith) (omega arith) (omega arith) (λ d row e. omega arith) (λ d edges e filled fits. omega arith)

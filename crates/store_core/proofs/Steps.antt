@@ -5,6 +5,7 @@ use Rattle.std.proofs.lemmas.Bool.{le-ltb}
 use Rattle.std.proofs.lemmas.List.Sums.{sum_by_push}
 use Rattle.digest_types.specs.Name.{HashAndSize}
 use Rattle.digest_types.specs.Digest.{digest_of}
+use Rattle.directory_canon.specs.declared.node.Edge.{Edge}
 use Rattle.store_core.specs.declared.state.Row.{Row}
 use Rattle.store_core.specs.declared.event.Event.TheVariants as events
 use Rattle.store_core.specs.declared.event.Reply.{Reply}
@@ -25,24 +26,24 @@ opened_is s now owner owners e grown =
 
 -- ---- a blob with a row
 
-again_by : (s : State) (d : HashAndSize) (o : Option Row) (row : Row) (reply : Reply) → o ≡ Some row → row.digest ≡ d → reply ≡ cond row.sound replies.Present replies.Repaired
-    → (reply, record s { rows = others d s.rows ++ sound_row d ∷ [] }) ≡ put_over s d o
-again_by s d o row reply e digest said =
-    let name : (reply, record s { rows = others d s.rows ++ sound_row d ∷ [] }) ≡ put_over s d (Some row) =
-    ap (λ (r : Reply). (r, record s { rows = others d s.rows ++ sound_row d ∷ [] })) said
-    ∙ ap (λ (x : HashAndSize). (cond row.sound replies.Present replies.Repaired, record s { rows = others d s.rows ++ sound_row x ∷ [] })) (sym digest) in
-    name ∙ ap (put_over s d) (sym e)
+again_by : (s : State) (d : HashAndSize) (edges : Option (List Edge)) (o : Option Row) (row : Row) (reply : Reply) → o ≡ Some row → reply ≡ cond row.sound replies.Present replies.Repaired
+    → (reply, record s { rows = others d s.rows ++ record row { sound = true } ∷ [] }) ≡ put_over s d edges o
+again_by s d edges o row reply e said =
+    let name : (reply, record s { rows = others d s.rows ++ record row { sound = true } ∷ [] }) ≡ put_over s d edges (Some row) =
+    ap (λ (r : Reply). (r, record s { rows = others d s.rows ++ record row { sound = true } ∷ [] })) said in
+    name ∙ ap (put_over s d edges) (sym e)
 
-pub again_is : (s now : State) (d : HashAndSize) (row : Row) (reply : Reply) (rows : List Row) → s ≡ now → row_of d s.rows ≡ Some row → reply ≡ cond row.sound replies.Present replies.Repaired → rows ≡ others d s.rows ++ sound_row d ∷ []
-    → (reply, record s { rows = rows }) ≡ put_over now d (row_of d now.rows)
-again_is s now d row reply rows e there said moved =
+pub again_is : (s now : State) (d : HashAndSize) (edges : Option (List Edge)) (row : Row) (reply : Reply) (rows : List Row) → s ≡ now → row_of d s.rows ≡ Some row → reply ≡ cond row.sound replies.Present replies.Repaired
+    → rows ≡ others d s.rows ++ record row { sound = true } ∷ [] → (reply, record s { rows = rows }) ≡ put_over now d edges (row_of d now.rows)
+again_is s now d edges row reply rows e there said moved =
     ap (λ (xs : List Row). (reply, record s { rows = xs })) moved
-    ∙ again_by s d (row_of d s.rows) row reply there (found d s.rows row there).digest said
-    ∙ ap (λ (t : State). put_over t d (row_of d t.rows)) e
+    ∙ again_by s d edges (row_of d s.rows) row reply there said
+    ∙ ap (λ (t : State). put_over t d edges (row_of d t.rows)) e
 
-pub again_keeps : (s : State) (d : HashAndSize) (row : Row) (rows : List Row) → row_of d s.rows ≡ Some row → rows ≡ others d s.rows ++ sound_row d ∷ [] → IsKept s → IsKept (record s { rows = rows })
+pub again_keeps : (s : State) (d : HashAndSize) (row : Row) (rows : List Row) → row_of d s.rows ≡ Some row → rows ≡ others d s.rows ++ record row { sound = true } ∷ [] → IsKept s → IsKept (record s { rows = rows })
 again_keeps s d row rows there moved kept =
-    subst (λ (xs : List Row). IsKept (record s { rows = xs })) (sym moved) (kept_renewed s d row there kept)
+    let named = ap (λ (x : HashAndSize). others d s.rows ++ sound_row x row.edges ∷ []) (found d s.rows row there).digest in
+    subst (λ (xs : List Row). IsKept (record s { rows = xs })) (sym (moved ∙ named)) (kept_renewed s d row.edges row there kept)
 
 -- ---- a blob with no row
 
@@ -55,15 +56,15 @@ count_is s d rows size n e f is =
     is ∙ ap (λ (xs : List Row). room_len_of xs s.low s.high size) e ∙ ap (λ (k : ℕ). room_len_of s.rows s.low s.high k) f
 
 -- a row was added, and n rows went for it
-pub record Adds (s : State) (d : HashAndSize) (n : ℕ) (rows : List Row) : Type 0 where
+pub record Adds (s : State) (d : HashAndSize) (edges : Option (List Edge)) (n : ℕ) (rows : List Row) : Type 0 where
   pub fits : d.size ≤ s.high
   pub count : n ≡ room_count s d.size
-  pub rows_are : rows ≡ drop n s.rows ++ sound_row d ∷ []
+  pub rows_are : rows ≡ drop n s.rows ++ sound_row d edges ∷ []
 
-pub adds_from : (s : State) (d : HashAndSize) (old rows : List Row) (size n : ℕ) → old ≡ s.rows → size ≡ d.size → size ≤ s.high
+pub adds_from : (s : State) (d : HashAndSize) (edges : Option (List Edge)) (old rows : List Row) (size n : ℕ) → old ≡ s.rows → size ≡ d.size → size ≤ s.high
     → n ≡ cond (nat_lt s.high (sizes old + size)) (least (frees old (sizes old) (min s.low (s.high - size))) (length old)) 0
-    → rows ≡ drop n s.rows ++ sound_row d ∷ [] → Adds s d n rows
-adds_from s d old rows size n e f fits is grown = record {
+    → rows ≡ drop n s.rows ++ sound_row d edges ∷ [] → Adds s d edges n rows
+adds_from s d edges old rows size n e f fits is grown = record {
   fits = omega arith;
   count = count_is s d old size n e f is;
   rows_are = grown;
@@ -74,45 +75,45 @@ pub count_within : (s : State) (d : HashAndSize) (old : List Row) (size n : ℕ)
     → n ≤ length s.rows
 count_within s d old size n e f is = omega (arith, count_is s d old size n e f is, room_count_within s d.size)
 
-added_rows : (s : State) (d : HashAndSize) (n : ℕ) (rows : List Row) → Adds s d n rows → record s { rows = rows } ≡ added s d
-added_rows s d n rows a =
-    ap (λ (xs : List Row). record s { rows = xs }) (a.rows_are ∙ ap (λ (k : ℕ). drop k s.rows ++ sound_row d ∷ []) a.count)
+added_rows : (s : State) (d : HashAndSize) (edges : Option (List Edge)) (n : ℕ) (rows : List Row) → Adds s d edges n rows → record s { rows = rows } ≡ added s d edges
+added_rows s d edges n rows a =
+    ap (λ (xs : List Row). record s { rows = xs }) (a.rows_are ∙ ap (λ (k : ℕ). drop k s.rows ++ sound_row d edges ∷ []) a.count)
 
-pub add_keeps : (s : State) (d : HashAndSize) (n : ℕ) (rows : List Row) → Adds s d n rows → row_of d s.rows ≡ None → d ≢ digest_of [] → IsKept s → IsKept (record s { rows = rows })
-add_keeps s d n rows a absent filled kept =
-    subst IsKept (sym (added_rows s d n rows a)) (kept_added s d absent filled a.fits kept)
+pub add_keeps : (s : State) (d : HashAndSize) (edges : Option (List Edge)) (n : ℕ) (rows : List Row) → Adds s d edges n rows → row_of d s.rows ≡ None → d ≢ digest_of [] → IsKept s → IsKept (record s { rows = rows })
+add_keeps s d edges n rows a absent filled kept =
+    subst IsKept (sym (added_rows s d edges n rows a)) (kept_added s d edges absent filled a.fits kept)
 
 -- what a put of a new blob gives, where t is the state with room for it
-abbrev stored : State → State → HashAndSize → Reply × State
-stored s t d =
-    (replies.Stored (length s.rows - length t.rows) (used t + d.size), with_row t (sound_row d))
+abbrev stored : State → State → HashAndSize → Option (List Edge) → Reply × State
+stored s t d edges =
+    (replies.Stored (length s.rows - length t.rows) (used t + d.size), with_row t (sound_row d edges))
 
 space_by : (b : Bool) (x y : Reply × State) → b ≡ false → y ≡ cond b x y
 space_by true x y e = absurd cc
 space_by false x y e = refl
 
-stored_is : (s : State) (d : HashAndSize) → (replies.Stored (room_count s d.size) (used (added s d)), added s d) ≡ stored s (record s { rows = drop (room_count s d.size) s.rows }) d
-stored_is s d =
+stored_is : (s : State) (d : HashAndSize) (edges : Option (List Edge)) → (replies.Stored (room_count s d.size) (used (added s d edges)), added s d edges) ≡ stored s (record s { rows = drop (room_count s d.size) s.rows }) d edges
+stored_is s d edges =
     let n = room_count s d.size in
     let within = room_count_within s d.size in
     let count : n ≡ length s.rows - length (drop n s.rows) = omega (arith, length-drop n s.rows) in
-    let bytes : used (added s d) ≡ sizes (drop n s.rows) + d.size = sum_by_push (λ (r : Row). r.digest.size) (drop n s.rows) (sound_row d) in
+    let bytes : used (added s d edges) ≡ sizes (drop n s.rows) + d.size = sum_by_push (λ (r : Row). r.digest.size) (drop n s.rows) (sound_row d edges) in
     cc
 
-pub add_is : (s now : State) (d : HashAndSize) (n bytes : ℕ) (rows : List Row) → s ≡ now → Adds s d n rows → bytes ≡ sizes rows
-    → (replies.Stored n bytes, record s { rows = rows }) ≡ put_over now d None
-add_is s now d n bytes rows e a counted =
-    let state = added_rows s d n rows a in
-    let all : bytes ≡ used (added s d) = counted ∙ ap used state in
+pub add_is : (s now : State) (d : HashAndSize) (edges : Option (List Edge)) (n bytes : ℕ) (rows : List Row) → s ≡ now → Adds s d edges n rows → bytes ≡ sizes rows
+    → (replies.Stored n bytes, record s { rows = rows }) ≡ put_over now d edges None
+add_is s now d edges n bytes rows e a counted =
+    let state = added_rows s d edges n rows a in
+    let all : bytes ≡ used (added s d edges) = counted ∙ ap used state in
     let small : nat_lt s.high (guarded s + d.size) ≡ false = le-ltb _ _ (omega (arith, a.fits)) in
     ap (λ (k : ℕ). (replies.Stored k bytes, record s { rows = rows })) a.count
     ∙ ap (λ (k : ℕ). (replies.Stored (room_count s d.size) k, record s { rows = rows })) all
-    ∙ ap (λ (t : State). (replies.Stored (room_count s d.size) (used (added s d)), t)) state
-    ∙ stored_is s d
-    ∙ ap (λ (t : State). stored s t d) (sym (room_is s d.size))
-    ∙ space_by (nat_lt s.high (guarded s + d.size)) (replies.NoSpace (guarded s) d.size s.high, s) (stored s (with_room s d.size) d) small
-    ∙ ap (λ (t : State). put_over t d None) e
+    ∙ ap (λ (t : State). (replies.Stored (room_count s d.size) (used (added s d edges)), t)) state
+    ∙ stored_is s d edges
+    ∙ ap (λ (t : State). stored s t d edges) (sym (room_is s d.size))
+    ∙ space_by (nat_lt s.high (guarded s + d.size)) (replies.NoSpace (guarded s) d.size s.high, s) (stored s (with_room s d.size) d edges) small
+    ∙ ap (λ (t : State). put_over t d edges None) e
 
-pub put_new_is : (s : State) (d : HashAndSize) → same d (digest_of []) ≡ false → row_of d s.rows ≡ None → put_over s d None ≡ put s d
-put_new_is s d filled absent =
-    ap (put_over s d) (sym absent) ∙ space_by (same d (digest_of [])) (replies.Present, s) (put_over s d (row_of d s.rows)) filled
+pub put_new_is : (s : State) (d : HashAndSize) (edges : Option (List Edge)) → same d (digest_of []) ≡ false → row_of d s.rows ≡ None → put_over s d edges None ≡ put s d edges
+put_new_is s d edges filled absent =
+    ap (put_over s d edges) (sym absent) ∙ space_by (same d (digest_of [])) (replies.Present, s) (put_over s d edges (row_of d s.rows)) filled

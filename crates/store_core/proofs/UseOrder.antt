@@ -1,8 +1,9 @@
 -- Rows of different digests.
 use Rattle.std.proofs.Common.{◌≡◌, ◌≢◌, ℕ, zero, suc, ◌+◌, ◌-◌, ◌<◌, ◌≤◌, Bool, true, false, cond, not, ltb, List, [], ◌∷◌, ◌++◌, length, get_or, set, take, drop, length-append, Some, None, refl, sym, ap, subst, ◌∙◌, arith}
 use borrow.Rule.Slice.PartMut.{put_mid, mid_of}
-use Rattle.std.specs.Prelude.{filter, position}
+use Rattle.std.specs.Prelude.{filter, position, slice_get}
 use Rattle.std.specs.List.{AllByRecursion, remove, position_or_len}
+use Rattle.std.proofs.Math.Seq.{get_or-append_seam}
 use Rattle.std.proofs.lemmas.Bool.{ltb-true, ltb-false}
 use Rattle.std.proofs.lemmas.List.Edits.{length-remove}
 use Rattle.std.proofs.lemmas.List.Elements.{All-filter, All-from_recursion, recursion_from_All, All-push, All-drop}
@@ -143,6 +144,12 @@ pub among : (P : Row → Type 0) (d : HashAndSize) (rows : List Row) (row : Row)
 among P d [] row e all = absurd cc
 among P d (first ∷ rest) row e all = among_by P d row first rest (is_of d first) (among P d rest row) e all
 
+-- where it stands
+pub row_there : (d : HashAndSize) (rows : List Row) (i : ℕ) → position (is_of d) rows ≡ Some i → row_of d rows ≡ slice_get rows i
+row_there d rows i e =
+    let h = cond_some (ltb (position_or_len (is_of d) rows) (length rows)) (position_or_len (is_of d) rows) i e in
+    find_at (is_of d) rows ∙ ap (λ (k : ℕ). slice_get rows k) h.1
+
 pub row_at : (d : HashAndSize) (rows : List Row) (i : ℕ) (x : Row) → position (is_of d) rows ≡ Some i → row_of d rows ≡ Some (get_or rows i x)
 row_at d rows i x e =
     let h = cond_some (ltb (position_or_len (is_of d) rows) (length rows)) (position_or_len (is_of d) rows) i e in
@@ -160,19 +167,21 @@ no_row_at d rows e =
 
 -- ---- a row that is moved to the end
 
--- what stands at the last place is replaced
-set_last : (front : List Row) (x y : Row) (n : ℕ) → n ≡ length front → set (front ++ x ∷ []) n y ≡ front ++ y ∷ []
-set_last front x y n e = set_at front x [] y n (sym e)
+-- what stands at the last place becomes sound
+last_sound : (front : List Row) (x row e : Row) (n : ℕ) → n ≡ length front → x ≡ row → set (front ++ x ∷ []) n (record (get_or (front ++ x ∷ []) n e) { sound = true }) ≡ front ++ record row { sound = true } ∷ []
+last_sound front x row e n len is =
+    let stands : get_or (front ++ x ∷ []) n e ≡ row = ap (λ (k : ℕ). get_or (front ++ x ∷ []) k e) len ∙ get_or-append_seam front x [] e ∙ is in
+    set_at front x [] (record (get_or (front ++ x ∷ []) n e) { sound = true }) n (sym len)
+    ∙ ap (λ (r : Row). front ++ record r { sound = true } ∷ []) stands
 
-pub moved_back : (place : ℕ) (rows part moved : List Row) (y : Row) → place < length rows → part ≡ drop 1 (mid_of place (length rows - place) rows) ++ take 1 (mid_of place (length rows - place) rows)
-    → moved ≡ put_mid place (length rows - place) rows part → set moved (length moved - 1) y ≡ remove rows place ++ y ∷ []
-moved_back place [] part moved y lt p e = absurd (omega arith)
-moved_back place (row ∷ rest) part moved y lt p e =
-    let rows : List Row = row ∷ rest in
+pub moved_back : (place : ℕ) (rows part moved : List Row) (row e : Row) → place < length rows → part ≡ drop 1 (mid_of place (length rows - place) rows) ++ take 1 (mid_of place (length rows - place) rows)
+    → moved ≡ put_mid place (length rows - place) rows part → slice_get rows place ≡ Some row
+    → set moved (length moved - 1) (record (get_or moved (length moved - 1) e) { sound = true }) ≡ remove rows place ++ record row { sound = true } ∷ []
+moved_back place rows part moved row e lt p is at =
     let x = get_or rows place row in
-    let turned : moved ≡ remove rows place ++ x ∷ [] = e ∙ put_mid-rotated place (length rows - place) rows part row lt (omega arith) p in
-    let len : length moved ≡ length (remove rows place) + 1 = ap length turned ∙ simp length-append in
-    rw turned (set_last (remove rows place) x y (length (remove rows place ++ x ∷ []) - 1) (simp length-append (omega arith)))
+    let turned : moved ≡ remove rows place ++ x ∷ [] = is ∙ put_mid-rotated place (length rows - place) rows part row lt (omega arith) p in
+    let found_row : x ≡ row = same_Some x row (sym (slice_get-get_or rows place row lt) ∙ at) in
+    rw turned (last_sound (remove rows place) x row e (length (remove rows place ++ x ∷ []) - 1) (simp length-append (omega arith)) found_row)
 
 -- what a vector holds where the row of a digest was moved to the end
 pub renewed : (d : HashAndSize) (rows old new rest : List Row) (n place : ℕ) (y : Row) → Distinct rows → position (is_of d) rows ≡ Some place → n ≡ length rows → old ≡ rows → new ≡ remove old place ++ y ∷ []

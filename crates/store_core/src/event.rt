@@ -1,14 +1,18 @@
 //! What happens to the store, and what it replies.
 
 use digest_types::Digest;
+use directory_canon::Edges;
 
 /// What an owner asks of the store.
 #[derive(Debug, Drop)]
 pub enum Event {
     /// A new owner comes.
     Open,
-    /// A blob whose bytes were checked against its digest.
-    Put { digest: Digest },
+    /// A blob whose bytes were checked against its digest, and what they link to, where they are a Directory.
+    Put {
+        digest: Digest,
+        edges: Option<Edges>,
+    },
     /// The owner goes.
     Close,
 }

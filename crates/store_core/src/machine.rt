@@ -1,16 +1,18 @@
 //! `Core`.
 
-ghost use Rattle.std.specs.Prelude.{◌≡◌, ◌≢◌, ◌<◌, ◌-◌, ◌^◌, ℕ, [], nat_eq, not, filter, position, Some, None, IfOk, OnErr, IsOk};
+ghost use Rattle.std.specs.Prelude.{◌≡◌, ◌≢◌, ◌<◌, ◌-◌, ◌^◌, ℕ, [], nat_eq, not, filter, position, List, Option, Some, None, IfOk, OnErr, IsOk};
 ghost use Rattle.digest_types.specs.Digest.{digest_of};
+ghost use Rattle.directory_canon.specs.declared.node.Edge.{Edge};
 ghost use Rattle.store_core.specs.State.{new_state, is_of, row_of};
 ghost use Rattle.store_core.specs.Step.{step, put, put_over};
 ghost use Rattle.store_core.specs.declared.event.Event.TheVariants as events;
 
 use crate::event::{Event, Reply};
 use crate::owners::{is_among, leave};
-use crate::rows::{add, is_empty_blob, place_of, renew, room_len, used_by};
+use crate::rows::{add, is_empty_blob, place_of, renew, room_len, sound_row, used_by};
 use crate::state::{Marks, Row};
 use digest_types::Digest;
+use directory_canon::Edges;
 use proto_wire::OutOfMemory;
 use std::alloc::Global;
 use std::marker::Model;
@@ -18,6 +20,7 @@ use std::marker::Model;
 /// The store's rules over plain lists.
 #[derive(Debug, Drop)]
 pub struct Core {
+    alloc: Global,
     rows: Vec<Row>,
     marks: Marks,
     next_owner: u64,
@@ -52,6 +55,7 @@ impl Core {
         ensures { result ≡ new_state marks.low marks.high }
     {
         Core {
+            alloc,
             rows: Vec::new(alloc),
             marks,
             next_owner: 1,
@@ -83,11 +87,11 @@ impl Core {
     {
         match event {
             Event::Open => self.open(),
-            Event::Put { digest } => {
+            Event::Put { digest, edges } => {
                 if !is_among(&self.owners, owner) {
                     return Ok(Reply::Refused);
                 }
-                self.put(digest)
+                self.put(digest, edges)
             }
             Event::Close => {
                 if !is_among(&self.owners, owner) {
@@ -119,8 +123,8 @@ impl Core {
     }
 
     // A blob is put by an owner that is open.
-    fn put(&mut self, digest: &Digest) -> Result<Reply, OutOfMemory>
-        ensures ok { IfOk result (λ reply. (reply, self.new) ≡ put self.old digest.now) }
+    fn put(&mut self, digest: &Digest, edges: &Option<Edges>) -> Result<Reply, OutOfMemory>
+        ensures ok { IfOk result (λ reply. (reply, self.new) ≡ put self.old digest.now edges.now) }
         ensures err { OnErr result (self.new ≡ self.old) }
     {
         if is_empty_blob(digest) {
@@ -128,14 +132,14 @@ impl Core {
         }
         match place_of(&self.rows, digest) {
             Some(place) => Ok(self.put_again(digest, place)),
-            None => self.put_new(digest),
+            None => self.put_new(digest, edges),
         }
     }
 
     // The blob has a row, at this place.
     fn put_again(&mut self, digest: &Digest, place: usize) -> Reply
         requires { position (is_of digest.now) self.old.rows ≡ Some place }
-        ensures { (result, self.new) ≡ put_over self.old digest.now (row_of digest.now self.old.rows) }
+        ensures { (edges : Option (List Edge)) → (result, self.new) ≡ put_over self.old digest.now edges (row_of digest.now self.old.rows) }
     {
         let sound = self.rows[place].sound;
         renew(&mut self.rows, digest, place);
@@ -147,10 +151,10 @@ impl Core {
     }
 
     // The blob has no row.
-    fn put_new(&mut self, digest: &Digest) -> Result<Reply, OutOfMemory>
+    fn put_new(&mut self, digest: &Digest, edges: &Option<Edges>) -> Result<Reply, OutOfMemory>
         requires new { row_of digest.now self.old.rows ≡ None }
         requires filled { digest.now ≢ digest_of [] }
-        ensures ok { IfOk result (λ reply. (reply, self.new) ≡ put_over self.old digest.now None) }
+        ensures ok { IfOk result (λ reply. (reply, self.new) ≡ put_over self.old digest.now edges.now None) }
         ensures err { OnErr result (self.new ≡ self.old) }
     {
         let size = digest.size;
@@ -163,7 +167,8 @@ impl Core {
             });
         }
         let removed = room_len(&self.rows, &self.marks, size);
-        add(&mut self.rows, digest, removed)?;
+        let row = sound_row(self.alloc, digest, edges)?;
+        add(&mut self.rows, row, removed)?;
         let used = used_by(&self.rows);
         Ok(Reply::Stored {
             removed: removed as u64,

@@ -1,14 +1,17 @@
 //! Rows in the order of their use, the least recent first.
 
-ghost use Rattle.std.specs.Prelude.{◌≡◌, ◌+◌, ◌-◌, ◌<◌, ◌≤◌, ◌^◌, ◌++◌, ◌∷◌, [], length, drop, Some, true, OnOk, OnErr, position, nat_lt, min, if◌then◌else◌};
+ghost use Rattle.std.specs.Prelude.{◌≡◌, ◌+◌, ◌-◌, ◌<◌, ◌≤◌, ◌^◌, ◌++◌, ◌∷◌, [], length, drop, Some, true, slice_get, IfOk, OnOk, OnErr, position, nat_lt, min, if◌then◌else◌};
 ghost use Rattle.std.specs.List.{remove};
 ghost use Rattle.digest_types.specs.Digest.{digest_of};
-ghost use Rattle.store_core.specs.State.{same, is_of, sizes, Distinct, others};
+ghost use Rattle.store_core.specs.State.{same, is_of, row_of, sizes, Distinct, others};
+ghost use Rattle.store_core.specs.declared.state.Row.{Row};
 ghost use Rattle.store_core.specs.Pass.{least, frees};
 
 use crate::state::{Marks, Row};
 use digest_types::Digest;
+use directory_canon::Edges;
 use proto_wire::OutOfMemory;
+use std::alloc::Global;
 
 /// Whether this is the digest of no bytes.
 #[tactic(auto, using(crate::proofs::Same::filled_from_size))]
@@ -18,13 +21,23 @@ pub(crate) fn is_empty_blob(digest: &Digest) -> bool
     digest.size == 0 && *digest == Digest::empty()
 }
 
-fn sound_row(digest: &Digest) -> Row
-    ensures { result ≡ record { digest = digest.now; sound = true } }
+/// A sound row with these edges.
+pub(crate) fn sound_row(
+    alloc: Global,
+    digest: &Digest,
+    edges: &Option<Edges>,
+) -> Result<Row, OutOfMemory>
+    ensures { IfOk result (λ row. row ≡ record { digest = digest.now; edges = edges.now; sound = true }) }
 {
-    Row {
+    let edges = match edges {
+        Some(edges) => Some(Edges::from_vec(Vec::from_slice(alloc, edges.as_slice())?)),
+        None => None,
+    };
+    Ok(Row {
         digest: *digest,
+        edges,
         sound: true,
-    }
+    })
 }
 
 fn is_row_of(row: &Row, digest: &Digest) -> bool
@@ -93,33 +106,34 @@ fn remove_front(rows: &mut Vec<Row>, count: usize)
     rows.truncate(len - count);
 }
 
-/// Adds a sound row as the most recent one, and takes the first `count` rows away.
-pub(crate) fn add(rows: &mut Vec<Row>, digest: &Digest, count: usize) -> Result<(), OutOfMemory>
+/// Adds a row as the most recent one, and takes the first `count` rows away.
+pub(crate) fn add(rows: &mut Vec<Row>, row: Row, count: usize) -> Result<(), OutOfMemory>
     requires { count ≤ length rows.old.items }
-    ensures ok { OnOk result (rows.new.items ≡ drop count rows.old.items ++ record { digest = digest.now; sound = true } ∷ []) }
+    ensures ok { OnOk result (rows.new.items ≡ drop count rows.old.items ++ row ∷ []) }
     ensures err { OnErr result (rows.new.items ≡ rows.old.items) }
 {
     // The row is added before any goes, since want of memory must leave all as before.
-    rows.push(sound_row(digest))?;
+    rows.push(row)?;
     remove_front(rows, count);
     Ok(())
 }
 
 /// Makes the row at a place the last one, and sound.
 #[tactic(auto, using(crate::proofs::UseOrder::moved_back))]
-fn move_back(rows: &mut [Row], digest: &Digest, place: usize)
+fn move_back(rows: &mut [Row], place: usize)
     requires { place < length rows.old }
-    ensures { rows.new ≡ remove rows.old place ++ record { digest = digest.now; sound = true } ∷ [] }
+    ensures { (row : Row) → slice_get rows.old place ≡ Some row → rows.new ≡ remove rows.old place ++ record row { sound = true } ∷ [] }
 {
     rows[place..].rotate_left(1);
-    rows[rows.len() - 1] = sound_row(digest);
+    let last = rows.len() - 1;
+    rows[last].sound = true;
 }
 
 /// Makes the row of a digest sound and the most recent one. It takes no memory.
 pub(crate) fn renew(rows: &mut Vec<Row>, digest: &Digest, place: usize)
     requires there { position (is_of digest.now) rows.old.items ≡ Some place }
     requires distinct { Distinct rows.old.items }
-    ensures { rows.new.items ≡ others digest.now rows.old.items ++ record { digest = digest.now; sound = true } ∷ [] }
+    ensures { (row : Row) → row_of digest.now rows.old.items ≡ Some row → rows.new.items ≡ others digest.now rows.old.items ++ record row { sound = true } ∷ [] }
 {
-    move_back(rows, digest, place);
+    move_back(rows, place);
 }

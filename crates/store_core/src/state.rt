@@ -3,6 +3,7 @@
 ghost use Rattle.std.specs.Prelude.{◌≤◌, ◌^◌};
 
 use digest_types::Digest;
+use directory_canon::Edges;
 
 /// The quota marks in bytes: an expiry pass goes down to the low one, and the store never holds more than the high
 /// one.
@@ -14,9 +15,11 @@ pub struct Marks {
     ghost small: { high ≤ 2 ^ 62 },
 }
 
-/// The index line of a blob. A row is unsound from the moment at which its body was found damaged.
-#[derive(Clone, Copy, Debug)]
+/// The index line of a blob: what it links to, where it is a Directory, and whether it is sound. It is unsound from the
+/// moment at which its body was found damaged.
+#[derive(Debug, Drop)]
 pub struct Row {
     pub digest: Digest,
+    pub edges: Option<Edges>,
     pub sound: bool,
 }

@@ -2,6 +2,7 @@ ghost use Rattle.std.specs.Prelude.{◌≡◌, ◌+◌, ◌-◌, ◌<◌, ◌≤
 
 use super::*;
 use digest_types::Digest;
+use directory_canon::{Edge, Edges, Kind};
 use std::alloc::Global;
 use std::process::Abort;
 use std::test::*;
@@ -19,6 +20,7 @@ fn put(bytes: &[u8]) -> Event
 {
     Event::Put {
         digest: Digest::of(bytes),
+        edges: None,
     }
 }
 
@@ -172,6 +174,43 @@ fn a_put_again_makes_a_blob_the_most_recent(rt: HostRuntime) -> Result<(), Fail>
     Ok(())
 }
 
+// A put of a Directory whose bytes link to one blob.
+fn put_linked(alloc: Global, edge: Edge) -> Result<Event, Fail> {
+    Ok(Event::Put {
+        digest: Digest::of(b"folder"),
+        edges: Some(Edges::from_vec(Vec::from_slice(alloc, &[edge])?)),
+    })
+}
+
+// There is one row, and these are its edges.
+fn expect_edges(rt: &impl Abort, core: &Core, edges: &[Edge]) {
+    assert_eq!(rt; core.rows().len(), 1);
+    for row in core.rows() {
+        let found = row.edges.as_ref().map(|edges| edges.as_slice());
+        assert_eq!(rt; found, Some(edges));
+    }
+}
+
+#[test]
+fn a_row_keeps_the_edges_of_its_first_put(rt: HostRuntime) -> Result<(), Fail> {
+    let mut core = store(rt.alloc(), 10, 20);
+    let first = Edge {
+        kind: Kind::File,
+        digest: Digest::of(b"file"),
+    };
+    let second = Edge {
+        kind: Kind::Dir,
+        digest: Digest::empty(),
+    };
+    step(&mut core, 0, &Event::Open)?;
+    step(&mut core, 1, &put_linked(rt.alloc(), first)?)?;
+    expect_edges(&rt, &core, &[first]);
+    let reply = step(&mut core, 1, &put_linked(rt.alloc(), second)?)?;
+    assert_eq!(rt; reply, Reply::Present);
+    expect_edges(&rt, &core, &[first]);
+    Ok(())
+}
+
 #[test]
 fn only_an_open_owner_is_served(rt: HostRuntime) -> Result<(), Fail> {
     let mut core = store(rt.alloc(), 10, 20);
@@ -299,7 +338,11 @@ fn puts_in_any_order_follow_the_rules(rt: HostRuntime) -> Result<(), Fail> {
             hash: [blob as u8; 32],
             size: u64::from(SIZES[blob]),
         };
-        let reply = step(&mut core, 1, &Event::Put { digest })?;
+        let event = Event::Put {
+            digest,
+            edges: None,
+        };
+        let reply = step(&mut core, 1, &event)?;
         assert_eq!(rt; reply, plain.put(blob, now), "put {now}");
         expect_order(&rt, &core, &plain);
     }

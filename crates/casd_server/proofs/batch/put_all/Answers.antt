@@ -15,7 +15,7 @@ put_one-requires-clause-count c = omega (arith, c.items.invariant.0, c.requires.
 pub items-preserved : goal.items-preserved
 items-preserved c = (
   ap (λ (x : Status × State). x.1.next_owner) c.in_ok-status.ensures ∙ put_item-next_owner c.items.core c.args.owner c.item-item.result ∙ c.items.invariant.0,
-  rw c.in_ok-push.ensures.items
+  rw (c.in_ok-push.ensures.items, c.rpc_status.ensures)
       (put_goes_on c.items.answers.items c.items.core c.put_one.new.core c.args.owner c.args.items.now c.items.item-index c.item-item.result c.in_ok-status.status
       (put_items c.args.core.now c.args.owner c.args.items.now) c.items-test.true c.item-item.is c.in_ok-status.ensures c.items.invariant.1),
 )

@@ -1,5 +1,5 @@
 use Rattle.std.proofs.Common.{sym, ◌∙◌}
-use Rattle.casd_server.specs.Message.{update_view}
+use Rattle.casd_server.specs.Batch.{update_view}
 use Rattle.casd_server.proofs.BatchLemmas.{built_small}
 use Rattle.casd_server.proofs.batch.update_with.Goals as goal
 

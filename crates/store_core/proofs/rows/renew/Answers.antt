@@ -1,9 +1,12 @@
-use Rattle.std.proofs.Common.{true}
-use Rattle.store_core.proofs.UseOrder.{renewed}
+use Rattle.std.proofs.Common.{true, sym, ap, ◌∙◌, List}
+use Rattle.std.specs.Prelude.{slice_get}
+use Rattle.store_core.specs.declared.state.Row.{Row}
+use Rattle.store_core.proofs.UseOrder.{renewed, row_there}
 use Rattle.store_core.proofs.rows.renew.Goals as goal
 
 pub returns : goal.returns
-returns c =
+returns c = λ row found.
     let rows = c.args.rows.now in
-    renewed c.args.digest.now rows.items c.deref_mut.result.now c.move_back.new.rows _ rows.len c.args.place (record { digest = c.args.digest.now; sound = true })
-    c.requires.distinct c.requires.there rows.ok.0 c.deref_mut.ensures.value c.move_back.ensures
+    let there = ap (λ (xs : List Row). slice_get xs c.args.place) c.deref_mut.ensures.value ∙ sym (row_there c.args.digest.now rows.items c.args.place c.requires.there) ∙ found in
+    renewed c.args.digest.now rows.items c.deref_mut.result.now c.move_back.new.rows _ rows.len c.args.place (record row { sound = true })
+    c.requires.distinct c.requires.there rows.ok.0 c.deref_mut.ensures.value (c.move_back.ensures row there)

@@ -15,5 +15,5 @@ pub returns-in-None-clause-ok : goal.returns-in-None-clause-ok
 returns-in-None-clause-ok c =
     let nowhere = rw c.deref.ensures.value at c.in-None.ensures in
     let absent = subst (λ (s : State). row_of c.args.digest.now s.rows ≡ None) c.self.view_is (no_row_at c.args.digest.now c.self.inside.rows.items (sym nowhere)) in
-    let same_put = put_new_is c.args.self.now c.args.digest.now (sym c.if-is_empty_blob.ensures) absent in
+    let same_put = put_new_is c.args.self.now c.args.digest.now c.args.edges.now (sym c.if-is_empty_blob.ensures) absent in
     subst (λ (x : Reply × State). IfOk c.put_new.result (λ reply. (reply, c.put_new.new.self) ≡ x)) same_put c.put_new.ensures.ok

@@ -14,10 +14,11 @@ invariant_of-self c =
     let d = c.args.digest.now in
     let there = subst (λ (s : State). position (is_of d) s.rows ≡ Some c.args.place) (sym c.self.view_is) c.requires in
     let row = c.index.result.now in
-    again_keeps (the_view c.self.inside) d _ c.renew.new.rows.items (row_at d c.self.inside.rows.items c.args.place row there) c.renew.ensures c.self.invariant
+    let found = row_at d c.self.inside.rows.items c.args.place row there in
+    again_keeps (the_view c.self.inside) d _ c.renew.new.rows.items found (c.renew.ensures _ found) c.self.invariant
 
 pub returns : goal.returns
-returns c =
+returns c = λ edges.
     let d = c.args.digest.now in
     let there = subst (λ (s : State). position (is_of d) s.rows ≡ Some c.args.place) (sym c.self.view_is) c.requires in
     let row = c.index.result.now in
@@ -27,4 +28,4 @@ returns c =
       | then-sound w ↦ rw (w.result-is, w.if-sound.true) refl
       | else-sound w ↦ rw (w.result-is, w.if-sound.false) refl
     ] in
-    again_is (the_view c.self.inside) c.args.self.now d row c.if-sound.result c.renew.new.rows.items c.self.view_is found said c.renew.ensures
+    again_is (the_view c.self.inside) c.args.self.now d edges row c.if-sound.result c.renew.new.rows.items c.self.view_is found said (c.renew.ensures row found)
