@@ -1,0 +1,14 @@
+pub mod SettingLemmas
+pub mod Headers
+pub mod ReaderLemmas
+pub mod Again
+pub mod Steps
+pub mod HeaderFound
+pub mod Payloads
+pub mod Found
+pub mod Written
+pub mod Rests
+pub mod Prefaces
+pub mod OneReading
+pub mod Streams
+pub mod TestLemmas

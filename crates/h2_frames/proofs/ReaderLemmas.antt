@@ -1,0 +1,69 @@
+-- The steps of a reader.
+use Rattle.std.proofs.Common.{◌≡◌, ℕ, ◌+◌, ◌≤◌, Bool, true, false, cond, leb, List, length, take, drop, Option, Some, None, Result, Ok, Err, refl, sym, ap, subst, arith}
+use Rattle.std.proofs.lemmas.Bool.{leb-true}
+use Rattle.std.proofs.lemmas.List.{length-take, length-drop}
+use Rattle.h2_frames.specs.declared.fault.FrameFault.{FrameFault}
+use Rattle.h2_frames.specs.declared.fault.FrameFault.TheVariants as faults
+use Rattle.h2_frames.specs.declared.frame.Frame.{Frame}
+use Rattle.h2_frames.specs.Reading.{◌>>=◌, Fails}
+use Rattle.h2_frames.specs.Stream.{Pending, preface, difference, whole_or_fault, preface_at, advanced, behind, begun, seen, give, given}
+
+whole_is : (b : Bool) (o : Option ℕ) (whole : Bool) → whole_or_fault b o ≡ Ok whole → (b ≡ whole) × (o ≡ None)
+whole_is b None whole e = (cc, refl)
+whole_is b (Some at) whole e = absurd cc
+
+-- a whole preface is there
+pub whole_long : (at : ℕ) (text : List ℕ) → preface_at at text ≡ Ok true → 24 ≤ length text
+unfolding preface_at
+whole_long at text e = leb-true _ _ (whole_is (leb 24 (length text)) (difference at preface text) true e).0
+
+-- what is seen is given
+pub given_by : (r b : Pending) (o : Option (Frame × ℕ)) → b ≡ begun r → seen b ≡ Ok o → given r ≡ Ok (give b o)
+unfolding given
+given_by r b o e s = subst (λ (x : Pending). (seen x >>= λ p. Ok (give x p)) ≡ Ok (give b o)) e (ap (λ (q : Result (Option (Frame × ℕ)) FrameFault). q >>= λ p. Ok (give b p)) s)
+
+failed_by : (r b : Pending) (e : FrameFault) → b ≡ begun r → seen b ≡ Err e → given r ≡ Err e
+unfolding given
+failed_by r b e is s = subst (λ (x : Pending). (seen x >>= λ p. Ok (give x p)) ≡ Err e) is (ap (λ (q : Result (Option (Frame × ℕ)) FrameFault). q >>= λ p. Ok (give b p)) s)
+
+pub fails_by : (r b : Pending) (e : FrameFault) → b ≡ begun r → Fails e (seen b) → Fails e (given r)
+fails_by r b faults.OutOfMemory is s = tt
+fails_by r b (faults.BadPreface at) is s = failed_by r b (faults.BadPreface at) is s
+fails_by r b (faults.TooLong at) is s = failed_by r b (faults.TooLong at) is s
+fails_by r b (faults.BadLength at) is s = failed_by r b (faults.BadLength at) is s
+fails_by r b (faults.BadPadding at) is s = failed_by r b (faults.BadPadding at) is s
+fails_by r b (faults.BadStream at) is s = failed_by r b (faults.BadStream at) is s
+
+pub is_whole : (r : Result Bool FrameFault) (b : Bool) → r ≡ Ok b → b ≡ true → r ≡ Ok true
+is_whole r b e t = cc
+
+-- what is known of a slice behind a place is known of the list
+pub long_behind : (n k i : ℕ) (xs ys : List ℕ) → n ≤ length (take k (drop i xs)) → xs ≡ ys → n ≤ length (drop i ys)
+long_behind n k i xs ys h e = subst (λ (zs : List ℕ). n ≤ length (drop i zs)) e (omega (arith, length-take k (drop i xs)))
+
+-- ---- no byte is lost
+
+abbrev pub count : Pending → ℕ
+count r = r.at + length r.rest
+
+pub advanced_count : (len : ℕ) (r : Pending) → len ≤ length r.rest → count (advanced len r) ≡ count r
+advanced_count len r h = omega (arith, length-drop len r.rest)
+
+behind_count : (p : Result Bool FrameFault) (r : Pending) → (p ≡ Ok true → 24 ≤ length r.rest) → count (behind p r) ≡ count r
+behind_count (Ok true) r h = advanced_count 24 r (h refl)
+behind_count (Ok false) r h = refl
+behind_count (Err e) r h = refl
+
+behind_fault : (p : Result Bool FrameFault) (r : Pending) → (behind p r).fault ≡ r.fault
+behind_fault (Ok true) r = refl
+behind_fault (Ok false) r = refl
+behind_fault (Err e) r = refl
+
+begun_parts : (b : Bool) (p : Result Bool FrameFault) (r : Pending) → (p ≡ Ok true → 24 ≤ length r.rest) → (count (cond b (behind p r) r) ≡ count r) × ((cond b (behind p r) r).fault ≡ r.fault)
+begun_parts true p r h = (behind_count p r h, behind_fault p r)
+begun_parts false p r h = (refl, refl)
+
+-- going behind the preface keeps the count, and the refusal
+pub begun_keeps : (r b : Pending) → b ≡ begun r → (count b ≡ count r) × (b.fault ≡ r.fault)
+unfolding begun
+begun_keeps r b e = subst (λ (x : Pending). (count x ≡ count r) × (x.fault ≡ r.fault)) (sym e) (begun_parts r.due (preface_at r.at r.rest) r (whole_long r.at r.rest))

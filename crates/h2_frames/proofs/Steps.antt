@@ -1,0 +1,56 @@
+-- Bytes, and what follows from a reading that gave a value, step by step.
+use Rattle.std.proofs.Common.{◌≡◌, ℕ, zero, suc, ◌+◌, ◌<◌, ◌⊎◌, inl, inr, Bool, true, false, cond, Result, Ok, Err, Option, Some, None, List, [], ◌∷◌, take, drop, refl, arith}
+use Rattle.std.proofs.lemmas.List.{get_or-drop}
+use Rattle.h2_frames.specs.declared.fault.FrameFault.{FrameFault}
+use Rattle.h2_frames.specs.Reading.{IsBytes, ◌>>=◌, unless}
+
+-- ---- bytes
+
+pub IsBytes-drop : (n : ℕ) (text : List ℕ) → IsBytes text → IsBytes (drop n text)
+IsBytes-drop n text h i = rw get_or-drop (h (n + i))
+
+pub IsBytes-take : (n : ℕ) (text : List ℕ) → IsBytes text → IsBytes (take n text)
+IsBytes-take zero text h i = omega arith
+IsBytes-take (suc n) [] h i = omega arith
+IsBytes-take (suc n) (b ∷ bs) h zero = h 0
+IsBytes-take (suc n) (b ∷ bs) h (suc i) = IsBytes-take n bs (λ k. h (suc k)) i
+
+pub two_fit : (a b : ℕ) → a < 256 → b < 256 → IsBytes (a ∷ b ∷ [])
+two_fit a b p q zero = p
+two_fit a b p q (suc zero) = q
+two_fit a b p q (suc (suc i)) = omega arith
+
+pub four_fit : (a b c d : ℕ) → a < 256 → b < 256 → c < 256 → d < 256 → IsBytes (a ∷ b ∷ c ∷ d ∷ [])
+four_fit a b c d p q r s zero = p
+four_fit a b c d p q r s (suc zero) = q
+four_fit a b c d p q r s (suc (suc zero)) = r
+four_fit a b c d p q r s (suc (suc (suc zero))) = s
+four_fit a b c d p q r s (suc (suc (suc (suc i)))) = omega arith
+
+-- ---- steps
+
+pub bind_ok : {A B : Type 0} (r : Result A FrameFault) (f : A → Result B FrameFault) (y : B) → (r >>= f) ≡ Ok y → (x : A) × (r ≡ Ok x) × (f x ≡ Ok y)
+bind_ok (Ok x) f y e = (x, refl, e)
+bind_ok (Err d) f y e = absurd cc
+
+pub guard_ok : {A : Type 0} (b : Bool) (d : FrameFault) (x y : A) → cond b (Err d) (Ok x) ≡ Ok y → (b ≡ false) × (x ≡ y)
+guard_ok true d x y e = absurd cc
+guard_ok false d x y e = (refl, cc)
+
+pub chosen : {A : Type 0} (b : Bool) (x y z : A) → cond b x y ≡ z → ((b ≡ true) × (x ≡ z)) ⊎ ((b ≡ false) × (y ≡ z))
+chosen true x y z e = inl (refl, e)
+chosen false x y z e = inr (refl, e)
+
+abbrev pub done : {A : Type 0} → A → Result A FrameFault
+done x = Ok x
+
+pub ok_is : {A : Type 0} (x y : A) → done x ≡ done y → x ≡ y
+ok_is x y e = cc
+
+pub not_none : {A : Type 0} (b : Bool) (r : Result (Option A) FrameFault) (x : A) → cond b (Ok None) r ≡ Ok (Some x) → (b ≡ false) × (r ≡ Ok (Some x))
+not_none true r x e = absurd cc
+not_none false r x e = (refl, e)
+
+pub no_fault : {A : Type 0} (o : Option FrameFault) (r : Result A FrameFault) (x : A) → unless o r ≡ Ok x → (o ≡ None) × (r ≡ Ok x)
+no_fault None r x e = (refl, e)
+no_fault (Some d) r x e = absurd cc

@@ -1,0 +1,78 @@
+-- The frames of a connection: what its reader holds, and what it gives next.
+use Rattle.std.specs.Prelude.{◌≡◌, ◌+◌, ◌==◌, nat_le, ℕ, Bool, true, false, List, [], ◌∷◌, ◌++◌, length, drop, Option, Some, None, Result, Ok, Err, if◌then◌else◌}
+use Rattle.h2_frames.specs.declared.fault.FrameFault.{FrameFault}
+use Rattle.h2_frames.specs.declared.fault.FrameFault.TheVariants as faults
+use Rattle.h2_frames.specs.declared.frame.Frame.{Frame}
+use Rattle.h2_frames.specs.Reading.{◌>>=◌, Fails, frame_at}
+
+-- A reader: whether the client's preface is still due, where the bytes begin that were not given out, these bytes,
+-- and the refusal, if there was one. It need not keep what it gave out.
+pub record Pending : Type 0 where
+  pub due : Bool
+  pub at : ℕ
+  pub rest : List ℕ
+  pub fault : Option FrameFault
+
+-- PRI * HTTP/2.0, an empty line, SM, an empty line (RFC 9113, section 3.4)
+unfoldable pub preface : List ℕ
+preface = 80 ∷ 82 ∷ 73 ∷ 32 ∷ 42 ∷ 32 ∷ 72 ∷ 84 ∷ 84 ∷ 80 ∷ 47 ∷ 50 ∷ 46 ∷ 48 ∷ 13 ∷ 10 ∷ 13 ∷ 10 ∷ 83 ∷ 77 ∷ 13 ∷ 10 ∷ 13 ∷ 10 ∷ []
+
+-- the place of the first byte that differs, where the first byte of both stands at `at`
+unfoldable pub difference : ℕ → List ℕ → List ℕ → Option ℕ
+difference at [] text = None
+difference at (p ∷ ps) [] = None
+difference at (p ∷ ps) (b ∷ bs) = if p == b then difference (at + 1) ps bs else Some at
+
+-- whether the bytes begin with the whole preface, or are a proper prefix of it
+abbrev pub whole_or_fault : Bool → Option ℕ → Result Bool FrameFault
+whole_or_fault whole None = Ok whole
+whole_or_fault whole (Some at) = Err (faults.BadPreface at)
+
+-- the preface at the beginning of bytes of which the first stands at `at`
+unfoldable pub preface_at : ℕ → List ℕ → Result Bool FrameFault
+preface_at at text = whole_or_fault (nat_le 24 (length text)) (difference at preface text)
+
+-- so many bytes were given out
+abbrev pub advanced : ℕ → Pending → Pending
+advanced len r = record { due = false; at = r.at + len; rest = drop len r.rest; fault = r.fault }
+
+-- behind the preface, where it stands there whole
+abbrev pub behind : Result Bool FrameFault → Pending → Pending
+behind (Ok true) r = advanced 24 r
+behind (Ok false) r = r
+behind (Err e) r = r
+
+-- the reader behind the preface, where that is due and whole
+unfoldable pub begun : Pending → Pending
+begun r = if r.due then behind (preface_at r.at r.rest) r else r
+
+-- what stands at the beginning of the rest: a frame and its length, None, or the first offence
+unfoldable pub seen : Pending → Result (Option (Frame × ℕ)) FrameFault
+seen r = if r.due then (preface_at r.at r.rest >>= λ whole. Ok None) else frame_at r.at r.rest
+
+-- the frame with its place, and the reader behind it
+abbrev pub give : Pending → Option (Frame × ℕ) → Option (ℕ × Frame) × Pending
+give r None = (None, r)
+give r (Some x) = (Some (r.at, x.0), advanced x.1 r)
+
+-- what is given next, or the first offence
+unfoldable pub given : Pending → Result (Option (ℕ × Frame) × Pending) FrameFault
+given r = seen (begun r) >>= λ o. Ok (give (begun r) o)
+
+-- What a reader without a refusal answers. A refusal stays, with the place where the offence stands.
+abbrev pub Answers : Pending → Pending → Result (Option (ℕ × Frame)) FrameFault → Type 0
+Answers old new (Ok o) = given old ≡ Ok (o, new)
+Answers old new (Err e) = Fails e (given old) × (new ≡ record (begun old) { fault = Some e })
+
+-- bytes that were fed: they come behind the rest, unless there was a refusal
+abbrev pub fed_by : Option FrameFault → List ℕ → Pending → Pending
+fed_by None bytes r = record r { rest = r.rest ++ bytes }
+fed_by (Some e) bytes r = r
+
+-- a reader that was fed
+abbrev pub fed : List ℕ → Pending → Pending
+fed bytes r = fed_by r.fault bytes r
+
+-- where the rest begins, if there is one
+abbrev pub rest_place : Pending → Option ℕ
+rest_place r = if length r.rest == 0 then None else Some r.at
