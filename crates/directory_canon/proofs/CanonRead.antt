@@ -8,14 +8,14 @@ use Rattle.directory_canon.specs.Node.{IsNode}
 use Rattle.directory_canon.specs.Canon.{max_len, Canon, IsDirectory, spelled}
 use Rattle.directory_canon.specs.Reading.{canon_of}
 use Rattle.directory_canon.proofs.CanonReadOrder.{directory_ascends, chain_from_ascending}
-use Rattle.directory_canon.proofs.CanonReadEntries.{row, placed, placed-nodes, row-wire, entries_again}
+use Rattle.directory_canon.proofs.CanonReadEntries.{node_fields, placed, placed-nodes, node_fields-wire, entries_again}
 use Rattle.directory_canon.proofs.CanonReadTwice.{Apart, none_twice}
 
 directory_read : (dir : List Node) → IsDirectory dir → canon_of (spelled dir) ≡ Ok dir
 unfolding canon_of
 directory_read dir is =
     let fits : ltb max_len (length (spelled dir)) ≡ false = le-ltb _ _ is.short in
-    let fields = wire_read (spelled dir) (row 0 dir) (row-wire 0 dir (omega (arith, is.short))) in
+    let fields = wire_read (spelled dir) (node_fields 0 dir) (node_fields-wire 0 dir (omega (arith, is.short))) in
     let entries = entries_again (spelled dir) None [] dir refl (recursion_from_All IsNode dir is.valid) (omega (arith, is.short)) (chain_from_ascending dir (directory_ascends dir is)) in
     let nodes = placed-nodes 0 dir in
     let none = none_twice (placed 0 dir) (subst (λ (nodes : List Node). AllPairs Apart nodes) (sym nodes) is.distinct) in

@@ -14,9 +14,9 @@ use Rattle.directory_canon.proofs.CanonReadOrder.{Chain, after_again}
 use Rattle.directory_canon.proofs.CanonReadNode.{Short, field_of, node_again, within_field}
 
 -- the fields of the nodes, the first of which stands at `at`
-abbrev pub row : ℕ → List Node → List WireField
-row at [] = []
-row at (node ∷ dir) = field_of at node ∷ row (at + length (node_spelled node)) dir
+abbrev pub node_fields : ℕ → List Node → List WireField
+node_fields at [] = []
+node_fields at (node ∷ dir) = field_of at node ∷ node_fields (at + length (node_spelled node)) dir
 
 -- the nodes with their places
 abbrev pub placed : ℕ → List Node → List Entry
@@ -46,10 +46,10 @@ short_content node rest short = omega (arith, length-append (node_spelled node) 
 short_rest : (node : Node) (rest : List ℕ) → Short (node_spelled node ++ rest) → Short rest
 short_rest node rest short = omega (arith, length-append (node_spelled node) rest)
 
-pub row-wire : (at : ℕ) (dir : List Node) → Short (spelled dir) → Wire at (spelled dir) (row at dir)
-row-wire at [] short = refl
-row-wire at (node ∷ dir) short =
-    (node_spelled node, spelled dir, node-spelling at node (short_content node (spelled dir) short), refl, refl, row-wire (at + length (node_spelled node)) dir (short_rest node (spelled dir) short))
+pub node_fields-wire : (at : ℕ) (dir : List Node) → Short (spelled dir) → Wire at (spelled dir) (node_fields at dir)
+node_fields-wire at [] short = refl
+node_fields-wire at (node ∷ dir) short =
+    (node_spelled node, spelled dir, node-spelling at node (short_content node (spelled dir) short), refl, refl, node_fields-wire (at + length (node_spelled node)) dir (short_rest node (spelled dir) short))
 
 starts_again : (front a rest : List ℕ) → starts_with nat_eq (drop (length front) (front ++ (a ++ rest))) a ≡ true
 starts_again front a rest = rw (drop_at front (a ++ rest) (length front) refl, take_at a rest (length a) refl) (nat_list_eq_equiv.refl a)
@@ -61,13 +61,13 @@ spelled_again whole front node rest parts is short =
     rw (node_again (length front) node is short, starts) refl
 
 pub entries_again : (whole : List ℕ) (before : Option Node) (front : List ℕ) (dir : List Node) → whole ≡ front ++ spelled dir → AllByRecursion IsNode dir → Short (spelled dir) → Chain before dir
-    → entries_in whole before (row (length front) dir) ≡ Ok (placed (length front) dir)
+    → entries_in whole before (node_fields (length front) dir) ≡ Ok (placed (length front) dir)
 unfolding entries_in
 entries_again whole before front [] parts is short chain = refl
 entries_again whole before front (node ∷ dir) parts is short chain =
     let here = spelled_again whole front node (spelled dir) parts is.0 (short_content node (spelled dir) short) in
     let next = after_again before (length front) node chain.0 in
     let others = entries_again whole (Some node) (front ++ node_spelled node) dir (parts ∙ sym (append_assoc front (node_spelled node) (spelled dir))) is.1 (short_rest node (spelled dir) short) chain.1 in
-    let moved : entries_in whole (Some node) (row (length front + length (node_spelled node)) dir) ≡ Ok (placed (length front + length (node_spelled node)) dir) =
-    subst (λ (at : ℕ). entries_in whole (Some node) (row at dir) ≡ Ok (placed at dir)) (length-append front (node_spelled node)) others in
+    let moved : entries_in whole (Some node) (node_fields (length front + length (node_spelled node)) dir) ≡ Ok (placed (length front + length (node_spelled node)) dir) =
+    subst (λ (at : ℕ). entries_in whole (Some node) (node_fields at dir) ≡ Ok (placed at dir)) (length-append front (node_spelled node)) others in
     rw (here, next, moved) refl
