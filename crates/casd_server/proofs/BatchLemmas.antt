@@ -12,7 +12,7 @@ use Rattle.store_core.specs.declared.state.Row.{Row}
 use Rattle.store_core.specs.declared.event.Event.TheVariants as events
 use Rattle.store_core.specs.declared.event.Reply.{Reply}
 use Rattle.store_core.specs.State.{State, row_of}
-use Rattle.store_core.specs.Step.{with_room, put_over, put, step}
+use Rattle.store_core.specs.Step.{with_room, put_over, put, served, step}
 use Rattle.directory_canon.specs.declared.node.Edge.{Edge}
 use Rattle.directory_canon.specs.Links.{links}
 use Rattle.cas_messages.specs.Fault.{Gives}
@@ -26,50 +26,54 @@ use Rattle.cas_messages.specs.Tables.{batch_update_blobs_request, batch_update_b
 use Rattle.cas_messages.specs.Table.{Value, ◌&◌}
 use Rattle.casd_server.specs.Batch.{Update, item_of, max_batch, is_built, rpc_of, put_item, put_items, update, update_by, update_in, update_view, batch_update}
 
--- ---- the number of the next owner stays
+-- ---- the numbers of the next owner and of the next lease stay
 
-kept_if : {A : Type 0} (t : Bool) (x y : A × State) (n : ℕ) → x.1.next_owner ≡ n → y.1.next_owner ≡ n → (cond t x y).1.next_owner ≡ n
+abbrev pub numbers : State → ℕ × ℕ
+numbers s = (s.next_owner, s.next_lease)
+
+pub kept_if : {A : Type 0} (t : Bool) (x y : A × State) (n : ℕ × ℕ) → numbers x.1 ≡ n → numbers y.1 ≡ n → numbers (cond t x y).1 ≡ n
 kept_if true x y n p q = p
 kept_if false x y n p q = q
 
-one_if : (t : Bool) (x y : State) (n : ℕ) → x.next_owner ≡ n → y.next_owner ≡ n → (cond t x y).next_owner ≡ n
+one_if : (t : Bool) (x y : State) (n : ℕ × ℕ) → numbers x ≡ n → numbers y ≡ n → numbers (cond t x y) ≡ n
 one_if true x y n p q = p
 one_if false x y n p q = q
 
-with_room-next_owner : (s : State) (size : ℕ) → (with_room s size).next_owner ≡ s.next_owner
-with_room-next_owner s size = one_if _ _ _ _ refl refl
+with_room-numbers : (s : State) (size : ℕ) → numbers (with_room s size) ≡ numbers s
+with_room-numbers s size = one_if _ _ _ _ refl refl
 
-put_over-next_owner : (s : State) (d : HashAndSize) (edges : Option (List Edge)) (row : Option Row) → (put_over s d edges row).1.next_owner ≡ s.next_owner
-put_over-next_owner s d edges (Some row) = refl
-put_over-next_owner s d edges None = kept_if {A = Reply} _ _ _ _ refl (with_room-next_owner s d.size)
+put_over-numbers : (s : State) (d : HashAndSize) (edges : Option (List Edge)) (row : Option Row) → numbers (put_over s d edges row).1 ≡ numbers s
+put_over-numbers s d edges (Some row) = refl
+put_over-numbers s d edges None = kept_if {A = Reply} _ _ _ _ refl (with_room-numbers s d.size)
 
-put-next_owner : (s : State) (d : HashAndSize) (edges : Option (List Edge)) → (put s d edges).1.next_owner ≡ s.next_owner
-put-next_owner s d edges = kept_if {A = Reply} _ _ _ _ refl (put_over-next_owner s d edges (row_of d s.rows))
+put-numbers : (s : State) (d : HashAndSize) (edges : Option (List Edge)) → numbers (put s d edges).1 ≡ numbers s
+unfolding put
+put-numbers s d edges = kept_if {A = Reply} _ _ _ _ refl (put_over-numbers s d edges (row_of d s.rows))
 
-step-put-next_owner : (s : State) (owner : ℕ) (d : HashAndSize) (edges : Option (List Edge)) → (step s owner (events.Put d edges)).1.next_owner ≡ s.next_owner
-unfolding step
-step-put-next_owner s owner d edges = kept_if {A = Reply} _ _ _ _ (put-next_owner s d edges) refl
+step-put-numbers : (s : State) (owner : ℕ) (d : HashAndSize) (edges : Option (List Edge)) → numbers (step s owner (events.Put d edges)).1 ≡ numbers s
+unfolding step served
+step-put-numbers s owner d edges = kept_if {A = Reply} _ _ _ _ (put-numbers s d edges) refl
 
-pub put_item-next_owner : (s : State) (owner : ℕ) (item : UpdateItem) → (put_item s owner item).1.next_owner ≡ s.next_owner
+pub put_item-numbers : (s : State) (owner : ℕ) (item : UpdateItem) → numbers (put_item s owner item).1 ≡ numbers s
 unfolding put_item
-put_item-next_owner s owner item = kept_if {A = Status} _ _ _ _ (step-put-next_owner s owner item.digest (links item.bytes)) refl
+put_item-numbers s owner item = kept_if {A = Status} _ _ _ _ (step-put-numbers s owner item.digest (links item.bytes)) refl
 
-pub put_items-next_owner : (s : State) (owner : ℕ) (items : List UpdateItem) → (put_items s owner items).1.next_owner ≡ s.next_owner
+pub put_items-numbers : (s : State) (owner : ℕ) (items : List UpdateItem) → numbers (put_items s owner items).1 ≡ numbers s
 unfolding put_items
-put_items-next_owner s owner [] = refl
-put_items-next_owner s owner (item ∷ items) = put_items-next_owner (put_item s owner item).1 owner items ∙ put_item-next_owner s owner item
+put_items-numbers s owner [] = refl
+put_items-numbers s owner (item ∷ items) = put_items-numbers (put_item s owner item).1 owner items ∙ put_item-numbers s owner item
 
-update-next_owner : (s : State) (owner : ℕ) (read : Result Update MessageError) → (update s owner read).1.next_owner ≡ s.next_owner
+update-numbers : (s : State) (owner : ℕ) (read : Result Update MessageError) → numbers (update s owner read).1 ≡ numbers s
 unfolding update
-update-next_owner s owner (Err e) = refl
-update-next_owner s owner (Ok r) = kept_if {A = Result (List ℕ) Status} _ _ _ _ (put_items-next_owner s owner r.items) refl
+update-numbers s owner (Err e) = refl
+update-numbers s owner (Ok r) = kept_if {A = Result (List ℕ) Status} _ _ _ _ (put_items-numbers s owner r.items) refl
 
--- the call keeps the number of the next owner, whatever it answers
-pub batch_update-next_owner : (s : State) (owner : ℕ) (messages : List (List ℕ)) → (batch_update s owner messages).1.next_owner ≡ s.next_owner
+-- the call keeps both numbers, whatever it answers
+pub batch_update-numbers : (s : State) (owner : ℕ) (messages : List (List ℕ)) → numbers (batch_update s owner messages).1 ≡ numbers s
 unfolding batch_update
-batch_update-next_owner s owner [] = refl
-batch_update-next_owner s owner (message ∷ []) = update-next_owner s owner (update_in message)
-batch_update-next_owner s owner (message ∷ next ∷ more) = refl
+batch_update-numbers s owner [] = refl
+batch_update-numbers s owner (message ∷ []) = update-numbers s owner (update_in message)
+batch_update-numbers s owner (message ∷ next ∷ more) = refl
 
 -- ---- items that are put one after the other, as a loop does
 

@@ -50,6 +50,7 @@ Going-start left written = record {
   bounded = omega arith;
   lines = omega arith;
   owners = omega arith;
+  leases = omega arith;
 }
 
 -- more was read
@@ -65,6 +66,7 @@ Going-reads left a b written w p p' s k g r few = record {
   bounded = few;
   lines = omega (arith, length-append p.bytes r.more, ap (λ (l : List ℕ). length l) r.bytes, g.lines, r.read);
   owners = g.owners;
+  leases = g.leases;
 }
 
 -- the outcome where a line and its newline stand at the front
@@ -78,9 +80,9 @@ outcome-line s k line rest more bytes r is clear result =
 
 -- a line was answered
 pub Going-line : (left l written w w' : Option (List ℕ)) (p : Pending) (s s' : Seated) (k : ℕ) (line rest text : List ℕ) → Going left l written w p s k
-    → p.bytes ≡ line ++ (10 ∷ rest) → NoByte 10 line → line_result s k (record_of line) ≡ (text, Some s') → Adds w w' text → s'.core.next_owner ≤ k + 1
+    → p.bytes ≡ line ++ (10 ∷ rest) → NoByte 10 line → line_result s k (record_of line) ≡ (text, Some s') → Adds w w' text → s'.core.next_owner ≤ k + 1 → s'.core.next_lease ≤ k + 1
     → Going left l written w' (record { bytes = rest; read = p.read }) s' (k + 1)
-Going-line left l written w w' p s s' k line rest text g is clear result added few = record {
+Going-line left l written w w' p s s' k line rest text g is clear result added owners leases = record {
   input = g.input;
   output = g.output ++ text;
   takes = g.takes;
@@ -90,7 +92,8 @@ Going-line left l written w w' p s s' k line rest text g is clear result added f
   read = g.read;
   bounded = g.bounded;
   lines = omega (arith, ap (λ (b : List ℕ). length b) is, length-append line (10 ∷ rest), g.lines);
-  owners = few;
+  owners = owners;
+  leases = leases;
 }
 
 -- the outcome of all that was read

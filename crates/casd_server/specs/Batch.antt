@@ -84,8 +84,8 @@ mismatch want got = record {
 abbrev pub fine : Status
 fine = record { code = code.Ok; text = [] }
 
--- The status of an item by the reply to its put. Opened, Closed and Refused are no replies to a put of an open owner.
-abbrev pub put_status : Reply → Status
+-- The status of an item by the reply to its put. The other replies are none to a put of an open owner.
+unfoldable pub put_status : Reply → Status
 put_status (replies.Stored removed used) = fine
 put_status replies.Present = fine
 put_status replies.Repaired = fine
@@ -94,6 +94,15 @@ put_status (replies.NoSpace guarded size high) = record {
   text = codes "guarded " ++ (decimal guarded ++ (codes " plus " ++ (decimal size ++ (codes " above " ++ decimal high))));
 }
 put_status (replies.Opened owner) = record { code = code.Internal; text = [] }
+put_status (replies.Missing ds) = record { code = code.Internal; text = [] }
+put_status replies.Found = record { code = code.Internal; text = [] }
+put_status replies.Absent = record { code = code.Internal; text = [] }
+put_status (replies.Leased lease) = record { code = code.Internal; text = [] }
+put_status (replies.Stands standing) = record { code = code.Internal; text = [] }
+put_status replies.Released = record { code = code.Internal; text = [] }
+put_status replies.Marked = record { code = code.Internal; text = [] }
+put_status (replies.Passed removed used) = record { code = code.Internal; text = [] }
+put_status (replies.Used usage) = record { code = code.Internal; text = [] }
 put_status replies.Closed = record { code = code.Internal; text = [] }
 put_status replies.Refused = record { code = code.Internal; text = [] }
 

@@ -48,6 +48,7 @@ fn mismatch_of(alloc: Global, want: &Digest, got: &Digest) -> Result<Status, Out
     })
 }
 
+#[tactic(auto, unfolding(crate::specs::Batch::put_status))]
 fn status_of(alloc: Global, reply: &Reply) -> Result<Status, OutOfMemory>
     ensures { IfOk result (λ s. s ≡ put_status reply.now) }
 {
@@ -67,7 +68,7 @@ fn status_of(alloc: Global, reply: &Reply) -> Result<Status, OutOfMemory>
                 text: Text::from_string(text),
             })
         }
-        Reply::Opened { .. } | Reply::Closed | Reply::Refused => Ok(Status {
+        _ => Ok(Status {
             code: Code::Internal,
             text: Text::empty(),
         }),
@@ -83,6 +84,7 @@ fn put_one(
 ) -> Result<Status, OutOfMemory>
     requires small { length item.now.bytes ≤ 2 ^ 60 }
     requires count { core.old.next_owner < 2 ^ 64 - 1 }
+    requires leases { core.old.next_lease < 2 ^ 64 - 1 }
     ensures { IfOk result (λ s. (s, core.new) ≡ put_item core.old owner item.now) }
 {
     let got = Digest::of(item.bytes.as_slice());
@@ -113,6 +115,7 @@ fn put_all(
 ) -> Result<Vec<BatchUpdateBlobsResponseItem1>, OutOfMemory>
     requires small { AllByRecursion (λ item. length item.bytes ≤ 2 ^ 60) items.now }
     requires count { core.old.next_owner < 2 ^ 64 - 1 }
+    requires leases { core.old.next_lease < 2 ^ 64 - 1 }
     ensures { IfOk result (λ v. (v.items, core.new) ≡ put_items core.old owner items.now) }
 {
     let mut answers = Vec::new(alloc);
@@ -151,6 +154,7 @@ fn update_with(
     request: &BatchUpdateBlobsRequest,
 ) -> Result<Answer, OutOfMemory>
     requires count { core.old.next_owner < 2 ^ 64 - 1 }
+    requires leases { core.old.next_lease < 2 ^ 64 - 1 }
     ensures { IfOk result (λ a. (a, core.new) ≡ update core.old owner (Ok (update_view request.now))) }
 {
     if !is_built_request(request) {
@@ -182,6 +186,7 @@ pub(crate) fn call(
     messages: &[Bytes],
 ) -> Result<Answer, OutOfMemory>
     requires count { core.old.next_owner < 2 ^ 64 - 1 }
+    requires leases { core.old.next_lease < 2 ^ 64 - 1 }
     ensures { IfOk result (λ a. (a, core.new) ≡ batch_update core.old owner messages.now) }
 {
     let message = match messages {

@@ -125,9 +125,11 @@ fn answer<W: Sink>(
     sink: &mut W,
 ) -> Result<bool, End>
     requires count { seats.old.core.next_owner < 2 ^ 64 - 2 }
+    requires leases { seats.old.core.next_lease < 2 ^ 64 - 1 }
     ensures ok { IfOk result (λ going. Adds (W.written sink.old) (W.written sink.new) (line_result seats.old number (record_of line.now)).0) }
     ensures kept { IfOk result (λ going. (line_result seats.old number (record_of line.now)).1 ≡ (if going then Some seats.new else None)) }
     ensures owners { OnOk result (seats.new.core.next_owner ≤ seats.old.core.next_owner + 1) }
+    ensures leases { OnOk result (seats.new.core.next_lease ≡ seats.old.core.next_lease) }
     ensures err { OnErr result (AddsPart (W.written sink.old) (W.written sink.new) (line_result seats.old number (record_of line.now)).0) }
     ensures end { IfErr result (λ e. (e ≡ ends.WriteFault) ⊎ (e ≡ ends.OutOfMemory)) }
     ensures later { W.write_faults sink.old ≤ W.write_faults sink.new }
@@ -159,6 +161,7 @@ fn step<S: Source, W: Sink>(
 ) -> Result<Option<End>, End>
     requires count { running.old.number < 2 ^ 63 }
     requires owners { running.old.seats.core.next_owner ≤ running.old.number }
+    requires leases { running.old.seats.core.next_lease ≤ running.old.number }
     ensures ok { (left written : Option (List ℕ))
         → Going left (S.left source.old) written (W.written sink.old) running.old.input running.old.seats running.old.number
         → IfOk result (λ o. MatchOption o

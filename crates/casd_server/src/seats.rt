@@ -54,6 +54,7 @@ impl Seats {
     fn owner(&mut self, seat: u8) -> Result<u64, OutOfMemory>
         requires seat { seat < 100 }
         requires count { self.old.core.next_owner < 2 ^ 64 - 1 }
+        requires leases { self.old.core.next_lease < 2 ^ 64 - 1 }
         ensures { IfOk result (λ owner. (owner, self.new) ≡ opened self.old seat) }
     {
         if let Some(owner) = self.owners[seat as usize] {
@@ -68,6 +69,7 @@ impl Seats {
     fn close(&mut self, seat: usize)
         requires seat { seat < 100 }
         requires count { self.old.core.next_owner < 2 ^ 64 - 1 }
+        requires leases { self.old.core.next_lease < 2 ^ 64 - 1 }
         ensures { self.new ≡ closed_with self.old seat (owner_at self.old seat) }
     {
         if let Some(owner) = self.owners[seat] {
@@ -81,7 +83,8 @@ impl Seats {
 
     /// Closes the owners of all seats, in the order of the seats. It takes no memory.
     pub(crate) fn close_all(&mut self)
-        requires { self.old.core.next_owner < 2 ^ 64 - 1 }
+        requires count { self.old.core.next_owner < 2 ^ 64 - 1 }
+        requires leases { self.old.core.next_lease < 2 ^ 64 - 1 }
         ensures { self.new ≡ closed_below 100 self.old }
     {
         'seats: for seat in 0..SEATS {
@@ -94,6 +97,7 @@ impl Seats {
     fn run(&mut self, asked: &Record) -> Result<Answer, OutOfMemory>
         requires seat { asked.now.seat < 100 }
         requires count { self.old.core.next_owner < 2 ^ 64 - 2 }
+        requires leases { self.old.core.next_lease < 2 ^ 64 - 1 }
         ensures { IfOk result (λ a. (a, self.new) ≡ run_record self.old (record_view asked.now)) }
     {
         if asked.word == Word::BatchUpdateBlobs {
@@ -114,6 +118,7 @@ impl Seats {
     pub(crate) fn answer(&mut self, asked: &Record) -> Result<String, OutOfMemory>
         requires seat { asked.now.seat < 100 }
         requires count { self.old.core.next_owner < 2 ^ 64 - 2 }
+        requires leases { self.old.core.next_lease < 2 ^ 64 - 1 }
         ensures { IfOk result (λ line. (string_bytes line, self.new) ≡ answer self.old (record_view asked.now)) }
     {
         let answered = self.run(asked)?;

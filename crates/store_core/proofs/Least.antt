@@ -1,11 +1,7 @@
 -- The least number that passes a test, and how many rows a pass removes.
-use Rattle.std.proofs.Common.{◌≡◌, ℕ, zero, suc, ◌<◌, ◌≤◌, Bool, true, false, cond, List, length, drop, refl, sym, ◌∙◌, arith, inl, inr}
-use Rattle.std.proofs.lemmas.Bool.{cases_lt, leb-true}
-use Rattle.std.proofs.lemmas.List.{drop_all}
-use Rattle.std.proofs.lemmas.List.Sums.{sum_by-take-drop}
-use Rattle.store_core.specs.declared.state.Row.{Row}
-use Rattle.store_core.specs.State.{sizes}
-use Rattle.store_core.specs.Pass.{least, frees}
+use Rattle.std.proofs.Common.{◌≡◌, ℕ, zero, suc, ◌<◌, ◌≤◌, Bool, true, false, cond, refl, sym, ◌∙◌, arith, inl, inr}
+use Rattle.std.proofs.lemmas.Bool.{cases_lt}
+use Rattle.store_core.specs.Pass.{least}
 
 abbrev shifted : (ℕ → Bool) → ℕ → Bool
 shifted p k = p (suc k)
@@ -51,14 +47,4 @@ least_is p n m within passes none =
         | inl lt ↦ absurd (let e = true_not_false (p (least p n)) (least_passes p n (omega arith)) (none (least p n) lt) in cc)
         | inr ge ↦ omega arith
       ]
-    ]
-
--- what is left after a pass is at most the target, or nothing
-pub left_after : (rows : List Row) (target : ℕ) → sizes (drop (least (frees rows (sizes rows) target) (length rows)) rows) ≤ target
-left_after rows target =
-    let k = least (frees rows (sizes rows) target) (length rows) in
-    let parts = sum_by-take-drop (λ (row : Row). row.digest.size) rows k in
-    elim (cases_lt k (length rows)) [
-      | inl lt ↦ let p = leb-true _ _ (least_passes (frees rows (sizes rows) target) (length rows) lt) in omega arith
-      | inr le ↦ rw (drop_all k rows le) (omega arith)
     ]

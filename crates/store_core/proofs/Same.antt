@@ -27,7 +27,7 @@ equal_from_same a b e =
     let renamed : named a.hash a.size ≡ named b.hash b.size = cc in
     sym (named_is a) ∙ renamed ∙ named_is b
 
-same_itself : (a : HashAndSize) → same a a ≡ true
+pub same_itself : (a : HashAndSize) → same a a ≡ true
 same_itself a = rw (nat_list_eq_equiv.refl a.hash) (eq-eqb a.size a.size refl)
 
 pub same_from_equal : (a b : HashAndSize) → a ≡ b → same a b ≡ true

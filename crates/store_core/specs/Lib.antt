@@ -1,3 +1,10 @@
 pub mod State
+pub mod Ascending
+pub mod Reach
 pub mod Pass
+pub mod Standing
 pub mod Step
+pub mod History
+pub mod Guard
+pub mod Marks
+pub mod Walk

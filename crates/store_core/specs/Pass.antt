@@ -1,26 +1,44 @@
 -- An expiry pass.
-use Rattle.std.specs.Prelude.{◌-◌, nat_le, ℕ, zero, suc, Bool, List, take, drop, length, if◌then◌else◌}
+use Rattle.std.specs.Prelude.{◌-◌, not, nat_le, ℕ, zero, suc, Bool, List, take, filter, length, if◌then◌else◌}
+use Rattle.digest_types.specs.Name.{HashAndSize}
 use Rattle.store_core.specs.declared.state.Row.{Row}
-use Rattle.store_core.specs.State.{State, sizes, used}
+use Rattle.store_core.specs.State.{State, is_among, digests, total, sizes, used, roots}
+use Rattle.store_core.specs.Reach.{blobs, is_reached}
+
+-- whether some lease reaches the digest
+abbrev pub is_guarded : State → HashAndSize → Bool
+is_guarded s d = is_reached (blobs s.rows) (roots s.leases) d
+
+-- how many bytes the guarded rows have
+abbrev pub guarded : State → ℕ
+guarded s = sizes (filter (λ row. is_guarded s row.digest) s.rows)
+
+-- the digests that aren't guarded, in the order of use
+abbrev pub unguarded : State → List HashAndSize
+unguarded s = filter (λ d. not (is_guarded s d)) (digests s.rows)
 
 -- the least number below n that passes the test, or n where none does
 unfoldable pub least : (ℕ → Bool) → ℕ → ℕ
 least p zero = 0
 least p (suc n) = if p 0 then 0 else suc (least (λ k. p (suc k)) n)
 
--- the rows that no lease guards, in the order of their use: all of them, since nothing takes a lease
-abbrev pub unguarded : State → List Row
-unguarded s = s.rows
+-- whether at most `target` of the bytes that are used are left without the first k blobs
+abbrev pub frees : List HashAndSize → ℕ → ℕ → ℕ → Bool
+frees ds bytes target k = nat_le (bytes - total (take k ds)) target
 
--- whether at most `target` of the `used` bytes are left without the first k rows
-abbrev pub frees : List Row → ℕ → ℕ → ℕ → Bool
-frees rows used target k = nat_le (used - sizes (take k rows)) target
+-- how many of the unguarded blobs a pass removes: the least k such that the bytes used less those of the first k are
+-- at most the target, or all of them where there is no such k
+unfoldable pub victims : List HashAndSize → ℕ → ℕ → ℕ
+victims ds bytes target = least (frees ds bytes target) (length ds)
 
--- how many rows a pass removes: the least k such that the bytes used less those of the first k unguarded rows are at
--- most the target, or all unguarded rows where there is no such k
-abbrev pub pass_count : State → ℕ → ℕ
-pass_count s target = least (frees (unguarded s) (used s) target) (length (unguarded s))
+-- the digests that a pass removes: the first unguarded ones in the order of use
+abbrev pub gone : State → ℕ → List HashAndSize
+gone s target = take (victims (unguarded s) (used s) target) (unguarded s)
 
--- the state after a pass: the first unguarded rows are gone, and all else stays
+-- the rows without those of these digests
+abbrev pub without : List HashAndSize → List Row → List Row
+without ds rows = filter (λ row. not (is_among ds row.digest)) rows
+
+-- the state after a pass: these rows are gone, and all else stays
 abbrev pub pass : State → ℕ → State
-pass s target = record s { rows = drop (pass_count s target) s.rows }
+pass s target = record s { rows = without (gone s target) s.rows }

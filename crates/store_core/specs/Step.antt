@@ -1,20 +1,24 @@
 -- One event: the reply, and the state after it.
-use Rattle.std.specs.Prelude.{◌+◌, ◌-◌, ◌++◌, not, nat_lt, nat_eq, min, ℕ, Bool, true, List, [], ◌∷◌, length, filter, Option, Some, None, if◌then◌else◌}
+use Rattle.std.specs.Prelude.{◌+◌, ◌-◌, ◌++◌, ◌||◌, ◌&&◌, not, nat_lt, nat_eq, min, map, ℕ, Bool, true, false, List, [], ◌∷◌, length, filter, find, Option, Some, None, if◌then◌else◌}
 use Rattle.std.specs.List.{list_any}
 use Rattle.digest_types.specs.Name.{HashAndSize}
-use Rattle.digest_types.specs.Digest.{digest_of}
 use Rattle.directory_canon.specs.declared.node.Edge.{Edge}
 use Rattle.store_core.specs.declared.state.Row.{Row}
+use Rattle.store_core.specs.declared.state.Lease.{Lease}
 use Rattle.store_core.specs.declared.event.Event.{Event}
 use Rattle.store_core.specs.declared.event.Event.TheVariants as events
 use Rattle.store_core.specs.declared.event.Reply.{Reply}
 use Rattle.store_core.specs.declared.event.Reply.TheVariants as replies
-use Rattle.store_core.specs.State.{State, same, row_of, others, used, guarded}
-use Rattle.store_core.specs.Pass.{pass}
+use Rattle.store_core.specs.Ascending.{firsts}
+use Rattle.store_core.specs.State.{State, same, is_empty, is_of, row_of, others, is_sound, used, has_id, is_of_owner}
+use Rattle.store_core.specs.Pass.{pass, guarded}
+use Rattle.store_core.specs.Standing.{standing}
 
 -- whether an owner is open
 abbrev pub is_open : State → ℕ → Bool
 is_open s owner = list_any (nat_eq owner) s.owners
+
+-- ---- put
 
 -- Room for so many bytes: where they don't fit below the high mark, a pass to the lesser of the low mark and what
 -- the high mark leaves beside them.
@@ -37,13 +41,107 @@ put_over s d edges None =
     )
 
 -- a put of any blob
-abbrev pub put : State → HashAndSize → Option (List Edge) → Reply × State
-put s d edges = if same d (digest_of []) then (replies.Present, s) else put_over s d edges (row_of d s.rows)
+unfoldable pub put : State → HashAndSize → Option (List Edge) → Reply × State
+put s d edges = if is_empty d then (replies.Present, s) else put_over s d edges (row_of d s.rows)
 
--- what an event of an owner gives
+-- ---- find and read
+
+-- a sound row becomes the most recent one
+abbrev pub touched : HashAndSize → List Row → List Row
+touched d rows = if is_sound rows d then others d rows ++ filter (is_of d) rows else rows
+
+-- the same for one digest after the other
+unfoldable pub touched_all : List HashAndSize → List Row → List Row
+touched_all [] rows = rows
+touched_all (d ∷ ds) rows = touched_all ds (touched d rows)
+
+-- whether the blob is there: it has a sound row, or is the empty one
+abbrev pub is_here : List Row → HashAndSize → Bool
+is_here rows d = is_empty d || is_sound rows d
+
+-- those that aren't there, each once, in the order of their first mention
+unfoldable pub missing : List Row → List HashAndSize → List HashAndSize
+missing rows ds = firsts same (filter (λ d. not (is_here rows d)) ds)
+
+abbrev pub found : State → List HashAndSize → Reply × State
+found s ds = (replies.Missing (missing s.rows ds), record s { rows = touched_all ds s.rows })
+
+abbrev pub read : State → HashAndSize → Reply × State
+read s d = if is_here s.rows d then (replies.Found, record s { rows = touched d s.rows }) else (replies.Absent, s)
+
+-- ---- leases
+
+-- an owner takes a lease
+abbrev pub leased : State → ℕ → Edge → Reply × State
+leased s owner root = (
+  replies.Leased s.next_lease,
+  record s { leases = s.leases ++ record { id = s.next_lease; owner = owner; root = root } ∷ []; next_lease = s.next_lease + 1 },
+)
+
+-- the lease with this number, where it is the owner's
+abbrev pub own_lease : State → ℕ → ℕ → Option Lease
+own_lease s owner id = find (λ lease. has_id id lease && is_of_owner owner lease) s.leases
+
+abbrev pub confirmed : State → Bool → Option Lease → Reply × State
+confirmed s files None = (replies.Refused, s)
+confirmed s files (Some lease) = (replies.Stands (standing s.rows lease.root files), s)
+
+abbrev pub released : State → ℕ → Option Lease → Reply × State
+released s id None = (replies.Refused, s)
+released s id (Some lease) = (replies.Released, record s { leases = filter (λ other. not (has_id id other)) s.leases })
+
+-- ---- the rest
+
+-- the row of the digest becomes unsound, if there is one; its edges stay
+abbrev pub damaged : HashAndSize → List Row → List Row
+damaged d rows = map (λ row. if is_of d row then record row { sound = false } else row) rows
+
+abbrev pub noted : State → HashAndSize → Reply × State
+noted s d = (replies.Marked, record s { rows = damaged d s.rows })
+
+abbrev pub passed : State → Reply × State
+passed s = (replies.Passed (length s.rows - length (pass s s.low).rows) (used (pass s s.low)), pass s s.low)
+
+abbrev pub usage : State → Reply × State
+usage s = (replies.Used (record { used = used s; guarded = guarded s; rows = length s.rows; low = s.low; high = s.high }), s)
+
+abbrev pub opened : State → Reply × State
+opened s = (replies.Opened s.next_owner, record s { next_owner = s.next_owner + 1; owners = s.owners ++ s.next_owner ∷ [] })
+
+-- an owner goes, unless it holds leases
+abbrev pub closed : State → ℕ → Reply × State
+closed s owner =
+    if list_any (is_of_owner owner) s.leases then (replies.Refused, s)
+    else (replies.Closed, record s { owners = filter (λ o. not (nat_eq o owner)) s.owners })
+
+-- what an event of an open owner gives
+unfoldable pub served : State → ℕ → Event → Reply × State
+served s owner events.Open = opened s
+served s owner (events.Put d edges) = put s d edges
+served s owner (events.Find ds) = found s ds
+served s owner (events.Read d) = read s d
+served s owner (events.Lease root kind) = leased s owner (record { kind = kind; digest = root })
+served s owner (events.Confirm id files) = confirmed s files (own_lease s owner id)
+served s owner (events.Release id) = released s id (own_lease s owner id)
+served s owner (events.Damage d) = noted s d
+served s owner events.Pass = passed s
+served s owner events.Usage = usage s
+served s owner events.Close = closed s owner
+
+-- whether the event is Open, which needs no owner
+abbrev pub is_opening : Event → Bool
+is_opening events.Open = true
+is_opening (events.Put d edges) = false
+is_opening (events.Find ds) = false
+is_opening (events.Read d) = false
+is_opening (events.Lease root kind) = false
+is_opening (events.Confirm id files) = false
+is_opening (events.Release id) = false
+is_opening (events.Damage d) = false
+is_opening events.Pass = false
+is_opening events.Usage = false
+is_opening events.Close = false
+
+-- what an event of an owner gives: that of an owner that isn't open changes nothing
 unfoldable pub step : State → ℕ → Event → Reply × State
-step s owner events.Open = (replies.Opened s.next_owner, record s { next_owner = s.next_owner + 1; owners = s.owners ++ s.next_owner ∷ [] })
-step s owner (events.Put d edges) = if is_open s owner then put s d edges else (replies.Refused, s)
-step s owner events.Close =
-    if is_open s owner then (replies.Closed, record s { owners = filter (λ o. not (nat_eq o owner)) s.owners })
-    else (replies.Refused, s)
+step s owner event = if is_opening event || is_open s owner then served s owner event else (replies.Refused, s)

@@ -2,16 +2,28 @@
 //! connection; the running store keeps indexes and is proved equal to it.
 #![tactic(auto)]
 
+mod digests;
 mod event;
+mod finding;
 pub mod laws;
+mod leases;
 mod machine;
+mod order;
 mod owners;
+mod passing;
+mod reach;
 mod rows;
+mod standing;
 mod state;
 
-pub use event::{Event, Reply};
+pub use event::{Event, Reply, Standing, Usage};
 pub use machine::Core;
-pub use state::{Marks, Row};
+pub use order::{digests_of, sort_pairs};
+pub use state::{Lease, Marks, Row};
 
+#[cfg(test)]
+mod lease_tests;
+#[cfg(test)]
+mod random_tests;
 #[cfg(test)]
 mod tests;

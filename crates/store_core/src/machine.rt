@@ -1,18 +1,25 @@
 //! `Core`.
 
-ghost use Rattle.std.specs.Prelude.{◌≡◌, ◌≢◌, ◌<◌, ◌-◌, ◌^◌, ℕ, [], nat_eq, not, filter, position, List, Option, Some, None, IfOk, OnErr, IsOk};
-ghost use Rattle.digest_types.specs.Digest.{digest_of};
+ghost use Rattle.std.specs.Prelude.{◌≡◌, ◌<◌, ◌≤◌, ◌+◌, ◌-◌, ◌^◌, ◌||◌, [], true, false, min, nat_lt, List, Option, Some, None, position, IfOk, OnErr, IsOk, if◌then◌else◌};
 ghost use Rattle.directory_canon.specs.declared.node.Edge.{Edge};
-ghost use Rattle.store_core.specs.State.{new_state, is_of, row_of};
-ghost use Rattle.store_core.specs.Step.{step, put, put_over};
+ghost use Rattle.store_core.specs.State.{new_state, is_empty, is_of, row_of, used};
+ghost use Rattle.store_core.specs.Step.{is_opening, is_open, step, served, opened, put, put_over, found, read, leased, confirmed, released, own_lease, noted, passed, usage, closed};
+ghost use Rattle.store_core.specs.Pass.{gone};
+ghost use Rattle.store_core.specs.Marks.{guard_marks};
 ghost use Rattle.store_core.specs.declared.event.Event.TheVariants as events;
 
-use crate::event::{Event, Reply};
+use crate::digests::is_empty_blob;
+use crate::event::{Event, Reply, Usage};
+use crate::finding::{damage, is_here, missing, touch, touch_all};
+use crate::leases::{holds, own_lease, release, roots};
 use crate::owners::{is_among, leave};
-use crate::rows::{add, is_empty_blob, place_of, renew, room_len, sound_row, used_by};
-use crate::state::{Marks, Row};
-use digest_types::Digest;
-use directory_canon::Edges;
+use crate::passing::{gone, guarded_by, remove};
+use crate::reach::reached_rows;
+use crate::rows::{place_of, renew, sound_row, used_by};
+use crate::standing::standing;
+use crate::state::{Lease, Marks, Row};
+use digest_types::{Digest, Digests};
+use directory_canon::{Edge, Edges};
 use proto_wire::OutOfMemory;
 use std::alloc::Global;
 use std::marker::Model;
@@ -22,8 +29,10 @@ use std::marker::Model;
 pub struct Core {
     alloc: Global,
     rows: Vec<Row>,
+    leases: Vec<Lease>,
     marks: Marks,
     next_owner: u64,
+    next_lease: u64,
     owners: Vec<u64>,
 }
 
@@ -34,17 +43,21 @@ impl Model for Core {
 
     ghost view = { λ c. record {
       rows = c.rows.items;
+      leases = c.leases.items;
       low = c.marks.low;
       high = c.marks.high;
       next_owner = c.next_owner;
+      next_lease = c.next_lease;
       owners = c.owners.items;
     } };
 
     ghost invariant = { λ c. IsKept (record {
       rows = c.rows.items;
+      leases = c.leases.items;
       low = c.marks.low;
       high = c.marks.high;
       next_owner = c.next_owner;
+      next_lease = c.next_lease;
       owners = c.owners.items;
     }) };
 }
@@ -57,8 +70,10 @@ impl Core {
         Core {
             alloc,
             rows: Vec::new(alloc),
+            leases: Vec::new(alloc),
             marks,
             next_owner: 1,
+            next_lease: 1,
             owners: Vec::new(alloc),
         }
     }
@@ -70,6 +85,13 @@ impl Core {
         self.rows.as_slice()
     }
 
+    /// The leases that stand, in the order in which they were taken. It takes no memory.
+    pub fn leases(&self) -> &[Lease]
+        ensures { result.now ≡ self.now.leases }
+    {
+        self.leases.as_slice()
+    }
+
     /// The number that the next owner gets. It takes no memory.
     pub fn next_owner(&self) -> u64
         ensures { result ≡ self.now.next_owner }
@@ -77,36 +99,63 @@ impl Core {
         self.next_owner
     }
 
+    /// The number that the next lease gets. It takes no memory.
+    pub fn next_lease(&self) -> u64
+        ensures { result ≡ self.now.next_lease }
+    {
+        self.next_lease
+    }
+
     /// One event of an owner, and the reply. After want of memory all is as before; Close never answers it.
     #[tactic(auto, unfolding(crate::specs::Step::step))]
     pub fn step(&mut self, owner: u64, event: &Event) -> Result<Reply, OutOfMemory>
-        requires { self.old.next_owner < 2 ^ 64 - 1 }
+        requires owners { self.old.next_owner < 2 ^ 64 - 1 }
+        requires leases { self.old.next_lease < 2 ^ 64 - 1 }
         ensures ok { IfOk result (λ reply. (reply, self.new) ≡ step self.old owner event.now) }
+        ensures err { OnErr result (self.new ≡ self.old) }
+        ensures close { event.now ≡ events.Close → IsOk result }
+    {
+        if !event.is_opening() && !is_among(&self.owners, owner) {
+            return Ok(Reply::Refused);
+        }
+        self.serve(owner, event)
+    }
+
+    // An event of an owner that is open.
+    #[tactic(auto, unfolding(crate::specs::Step::served))]
+    fn serve(&mut self, owner: u64, event: &Event) -> Result<Reply, OutOfMemory>
+        requires open { (is_opening event.now || is_open self.old owner) ≡ true }
+        requires owners { self.old.next_owner < 2 ^ 64 - 1 }
+        requires leases { self.old.next_lease < 2 ^ 64 - 1 }
+        ensures ok { IfOk result (λ reply. (reply, self.new) ≡ served self.old owner event.now) }
         ensures err { OnErr result (self.new ≡ self.old) }
         ensures close { event.now ≡ events.Close → IsOk result }
     {
         match event {
             Event::Open => self.open(),
-            Event::Put { digest, edges } => {
-                if !is_among(&self.owners, owner) {
-                    return Ok(Reply::Refused);
-                }
-                self.put(digest, edges)
-            }
-            Event::Close => {
-                if !is_among(&self.owners, owner) {
-                    return Ok(Reply::Refused);
-                }
-                self.close(owner);
-                Ok(Reply::Closed)
-            }
+            Event::Put { digest, edges } => self.put(digest, edges),
+            Event::Find { digests } => self.find(digests.as_slice()),
+            Event::Read { digest } => Ok(self.read(digest)),
+            Event::Lease { root, kind } => self.lease(
+                owner,
+                Edge {
+                    kind: *kind,
+                    digest: *root,
+                },
+            ),
+            Event::Confirm { lease, files } => self.confirm(owner, *lease, *files),
+            Event::Release { lease } => Ok(self.release(owner, *lease)),
+            Event::Damage { digest } => Ok(self.damage(digest)),
+            Event::Pass => self.pass(),
+            Event::Usage => self.usage(),
+            Event::Close => Ok(self.close(owner)),
         }
     }
 
     // A new owner comes, and has the next number.
     fn open(&mut self) -> Result<Reply, OutOfMemory>
         requires { self.old.next_owner < 2 ^ 64 - 1 }
-        ensures ok { IfOk result (λ reply. (owner : ℕ) → (reply, self.new) ≡ step self.old owner events.Open) }
+        ensures ok { IfOk result (λ reply. (reply, self.new) ≡ opened self.old) }
         ensures err { OnErr result (self.new ≡ self.old) }
     {
         let owner = self.next_owner;
@@ -115,14 +164,19 @@ impl Core {
         Ok(Reply::Opened { owner })
     }
 
-    // An owner goes. Its blobs stay.
-    fn close(&mut self, owner: u64)
-        ensures { self.new ≡ record self.old { owners = filter (λ o. not (nat_eq o owner)) self.old.owners } }
+    // An owner goes, unless it holds leases. Its blobs stay.
+    fn close(&mut self, owner: u64) -> Reply
+        ensures { (result, self.new) ≡ closed self.old owner }
     {
+        if holds(&self.leases, owner) {
+            return Reply::Refused;
+        }
         leave(&mut self.owners, owner);
+        Reply::Closed
     }
 
-    // A blob is put by an owner that is open.
+    // A blob is put.
+    #[tactic(auto, unfolding(crate::specs::Step::put))]
     fn put(&mut self, digest: &Digest, edges: &Option<Edges>) -> Result<Reply, OutOfMemory>
         ensures ok { IfOk result (λ reply. (reply, self.new) ≡ put self.old digest.now edges.now) }
         ensures err { OnErr result (self.new ≡ self.old) }
@@ -153,26 +207,156 @@ impl Core {
     // The blob has no row.
     fn put_new(&mut self, digest: &Digest, edges: &Option<Edges>) -> Result<Reply, OutOfMemory>
         requires new { row_of digest.now self.old.rows ≡ None }
-        requires filled { digest.now ≢ digest_of [] }
+        requires filled { is_empty digest.now ≡ false }
         ensures ok { IfOk result (λ reply. (reply, self.new) ≡ put_over self.old digest.now edges.now None) }
         ensures err { OnErr result (self.new ≡ self.old) }
     {
         let size = digest.size;
         let high = self.marks.high;
-        if size > high {
+        let guards = self.guards()?;
+        let guarded = guarded_by(&self.rows, &guards);
+        if size > high - guarded {
             return Ok(Reply::NoSpace {
-                guarded: 0,
+                guarded,
                 size,
                 high,
             });
         }
-        let removed = room_len(&self.rows, &self.marks, size);
+        let room = self.room(&guards, size)?;
         let row = sound_row(self.alloc, digest, edges)?;
-        add(&mut self.rows, row, removed)?;
-        let used = used_by(&self.rows);
+        // The row is added before any goes, since want of memory must leave all as before.
+        self.rows.push(row)?;
+        let removed = remove(&mut self.rows, &room);
         Ok(Reply::Stored {
-            removed: removed as u64,
+            removed,
+            used: used_by(&self.rows),
+        })
+    }
+
+    // For each row whether it is guarded.
+    fn guards(&self) -> Result<Vec<bool>, OutOfMemory>
+        ensures { IfOk result (λ guards. guards.items ≡ guard_marks self.now) }
+    {
+        let starts = roots(self.alloc, &self.leases)?;
+        reached_rows(self.alloc, &self.rows, &starts)
+    }
+
+    // The digests that go so that `size` more bytes fit: none where they fit, else those of a pass to the lesser of
+    // the low mark and what these bytes leave of the high one.
+    fn room(&self, guards: &[bool], size: u64) -> Result<Vec<Digest>, OutOfMemory>
+        requires guards { guards.now ≡ guard_marks self.now }
+        requires fits { size ≤ self.now.high }
+        ensures { IfOk result (λ ds. ds.items ≡ (if nat_lt self.now.high (used self.now + size) then gone self.now (min self.now.low (self.now.high - size)) else [])) }
+    {
+        let used = used_by(&self.rows);
+        let room = self.marks.high - size;
+        if used <= room {
+            return Ok(Vec::new(self.alloc));
+        }
+        gone(
+            self.alloc,
+            &self.rows,
+            guards,
             used,
+            self.marks.low.min(room),
+        )
+    }
+
+    // Which blobs aren't there.
+    fn find(&mut self, digests: &[Digest]) -> Result<Reply, OutOfMemory>
+        ensures ok { IfOk result (λ reply. (reply, self.new) ≡ found self.old digests.now) }
+        ensures err { OnErr result (self.new ≡ self.old) }
+    {
+        let missing = missing(self.alloc, &self.rows, digests)?;
+        touch_all(&mut self.rows, digests);
+        Ok(Reply::Missing {
+            digests: Digests::from_vec(missing),
+        })
+    }
+
+    // Whether the bytes of a blob can be read.
+    fn read(&mut self, digest: &Digest) -> Reply
+        ensures { (result, self.new) ≡ read self.old digest.now }
+    {
+        if !is_here(&self.rows, digest) {
+            return Reply::Absent;
+        }
+        touch(&mut self.rows, digest);
+        Reply::Found
+    }
+
+    // An owner that is open takes a lease.
+    fn lease(&mut self, owner: u64, root: Edge) -> Result<Reply, OutOfMemory>
+        requires open { is_open self.old owner ≡ true }
+        requires leases { self.old.next_lease < 2 ^ 64 - 1 }
+        ensures ok { IfOk result (λ reply. (reply, self.new) ≡ leased self.old owner root) }
+        ensures err { OnErr result (self.new ≡ self.old) }
+    {
+        let id = self.next_lease;
+        self.leases.push(Lease { id, owner, root })?;
+        self.next_lease = id + 1;
+        Ok(Reply::Leased { lease: id })
+    }
+
+    // How a lease stands.
+    fn confirm(&mut self, owner: u64, id: u64, files: bool) -> Result<Reply, OutOfMemory>
+        ensures ok { IfOk result (λ reply. (reply, self.new) ≡ confirmed self.old files (own_lease self.old owner id)) }
+        ensures err { OnErr result (self.new ≡ self.old) }
+    {
+        let Some(lease) = own_lease(&self.leases, owner, id) else {
+            return Ok(Reply::Refused);
+        };
+        let standing = standing(self.alloc, &self.rows, &lease.root, files)?;
+        Ok(Reply::Stands { standing })
+    }
+
+    // A lease goes.
+    fn release(&mut self, owner: u64, id: u64) -> Reply
+        ensures { (result, self.new) ≡ released self.old id (own_lease self.old owner id) }
+    {
+        if own_lease(&self.leases, owner, id).is_none() {
+            return Reply::Refused;
+        }
+        release(&mut self.leases, id);
+        Reply::Released
+    }
+
+    // A blob was found damaged.
+    fn damage(&mut self, digest: &Digest) -> Reply
+        ensures { (result, self.new) ≡ noted self.old digest.now }
+    {
+        damage(&mut self.rows, digest);
+        Reply::Marked
+    }
+
+    // A pass to the low mark.
+    fn pass(&mut self) -> Result<Reply, OutOfMemory>
+        ensures ok { IfOk result (λ reply. (reply, self.new) ≡ passed self.old) }
+        ensures err { OnErr result (self.new ≡ self.old) }
+    {
+        let guards = self.guards()?;
+        let used = used_by(&self.rows);
+        let victims = gone(self.alloc, &self.rows, &guards, used, self.marks.low)?;
+        let removed = remove(&mut self.rows, &victims);
+        Ok(Reply::Passed {
+            removed,
+            used: used_by(&self.rows),
+        })
+    }
+
+    // The numbers of the store.
+    fn usage(&self) -> Result<Reply, OutOfMemory>
+        ensures { IfOk result (λ reply. (reply, self.now) ≡ usage self.now) }
+    {
+        let guards = self.guards()?;
+        Ok(Reply::Used {
+            usage: Usage {
+                used: used_by(&self.rows),
+                guarded: guarded_by(&self.rows, &guards),
+                rows: self.rows.len() as u64,
+                low: self.marks.low,
+                high: self.marks.high,
+            },
         })
     }
 }

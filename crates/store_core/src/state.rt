@@ -3,7 +3,7 @@
 ghost use Rattle.std.specs.Prelude.{◌≤◌, ◌^◌};
 
 use digest_types::Digest;
-use directory_canon::Edges;
+use directory_canon::{Edge, Edges};
 
 /// The quota marks in bytes: an expiry pass goes down to the low one, and the store never holds more than the high
 /// one.
@@ -22,4 +22,12 @@ pub struct Row {
     pub digest: Digest,
     pub edges: Option<Edges>,
     pub sound: bool,
+}
+
+/// An owner's hold on all that a root reaches, until it is released.
+#[derive(Clone, Copy, Debug, PartialEq, Eq)]
+pub struct Lease {
+    pub id: u64,
+    pub owner: u64,
+    pub root: Edge,
 }

@@ -8,5 +8,5 @@ pub returns : goal.returns
 returns c = λ row found.
     let rows = c.args.rows.now in
     let there = ap (λ (xs : List Row). slice_get xs c.args.place) c.deref_mut.ensures.value ∙ sym (row_there c.args.digest.now rows.items c.args.place c.requires.there) ∙ found in
-    renewed c.args.digest.now rows.items c.deref_mut.result.now c.move_back.new.rows _ rows.len c.args.place (record row { sound = true })
-    c.requires.distinct c.requires.there rows.ok.0 c.deref_mut.ensures.value (c.move_back.ensures row there)
+    renewed c.args.digest.now rows.items c.deref_mut.result.now c.renew_at.new.rows _ rows.len c.args.place (record row { sound = true })
+    c.requires.distinct c.requires.there rows.ok.0 c.deref_mut.ensures.value (c.renew_at.ensures row there)

@@ -2,8 +2,8 @@ use Rattle.std.proofs.Common.{◌≡◌, None, sym, subst}
 use Rattle.std.specs.Prelude.{IfOk}
 use Rattle.store_core.specs.declared.event.Reply.{Reply}
 use Rattle.store_core.specs.State.{State, row_of}
+use Rattle.store_core.proofs.Changes.{put_new_is}
 use Rattle.store_core.proofs.UseOrder.{no_row_at}
-use Rattle.store_core.proofs.Steps.{put_new_is}
 use Rattle.store_core.proofs.machine.Core.put.Goals as goal
 
 pub put_new-requires-clause-new : goal.put_new-requires-clause-new

@@ -5,7 +5,7 @@ use Rattle.store_core.specs.declared.state.Row.{Row}
 use Rattle.store_core.specs.State.{State, is_of}
 use Rattle.store_core.specs.contracts.machine.Core.{the_view}
 use Rattle.store_core.proofs.UseOrder.{row_at}
-use Rattle.store_core.proofs.Steps.{again_is, again_keeps}
+use Rattle.store_core.proofs.Changes.{again_is, again_keeps}
 use Rattle.store_core.proofs.machine.Core.put_again.Goals as goal
 use Rattle.store_core.proofs.machine.Core.put_again.Goals.{then-sound, else-sound}
 

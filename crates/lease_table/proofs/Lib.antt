@@ -1,0 +1,9 @@
+pub mod RowLaws
+pub mod MarkLaws
+pub mod NearLaws
+pub mod ByteLaws
+pub mod TableLaws
+pub mod GuardLaws
+pub mod VictimLaws
+pub mod OrderLaws
+pub mod PairLaws

@@ -1,0 +1,81 @@
+-- What a lease table was told, and what follows from that.
+use Rattle.std.specs.Prelude.{◌≢◌, ◌&&◌, not, nat_eq, is_some, map, filter, ℕ, Bool, List, [], ◌∷◌, sum_by}
+use Rattle.std.specs.List.{AllByRecursion, list_any}
+use Rattle.digest_types.specs.Name.{HashAndSize}
+use Rattle.directory_canon.specs.declared.node.Edge.{Edge}
+use Rattle.store_core.specs.State.{same, is_among}
+use Rattle.store_core.specs.Reach.{Linked, is_reached}
+use Rattle.lease_table.specs.declared.hold.Hold.{Hold}
+
+-- The blobs of the rows, in the order in which they were put, and the leases, in the order in which they were taken.
+pub record Table : Type 0 where
+  pub blobs : List Linked
+  pub leases : List Hold
+
+-- whether a blob has this digest
+abbrev pub is_blob : HashAndSize → Linked → Bool
+is_blob d blob = same blob.digest d
+
+-- whether a digest has a row
+abbrev pub has_row : Table → HashAndSize → Bool
+has_row t d = list_any (is_blob d) t.blobs
+
+-- whether a lease has this number
+abbrev pub has_id : ℕ → Hold → Bool
+has_id id hold = nat_eq hold.id id
+
+-- whether the table has a lease with this number
+abbrev pub has_lease : Table → ℕ → Bool
+has_lease t id = list_any (has_id id) t.leases
+
+-- the roots of the leases
+abbrev pub roots : List Hold → List Edge
+roots leases = map (λ hold. hold.root) leases
+
+-- the root of the lease with this number, as a list
+abbrev pub root_of : Table → ℕ → List Edge
+root_of t id = roots (filter (has_id id) t.leases)
+
+-- whether the digest has a row and some lease reaches it
+abbrev pub is_guarded : Table → HashAndSize → Bool
+is_guarded t d = has_row t d && is_reached t.blobs (roots t.leases) d
+
+-- how many bytes the blobs have
+abbrev pub sizes : List Linked → ℕ
+sizes blobs = sum_by (λ blob. blob.digest.size) blobs
+
+-- how many bytes the guarded rows have
+abbrev pub guarded : Table → ℕ
+guarded t = sizes (filter (λ blob. is_reached t.blobs (roots t.leases) blob.digest) t.blobs)
+
+-- the blobs without those of these digests
+abbrev pub without : List HashAndSize → List Linked → List Linked
+without ds blobs = filter (λ blob. not (is_among ds blob.digest)) blobs
+
+-- the blobs without that of this digest
+abbrev pub others : HashAndSize → List Linked → List Linked
+others d blobs = filter (λ blob. not (is_blob d blob)) blobs
+
+-- whether the digest has a row with edges
+abbrev pub is_dir_row : Table → HashAndSize → Bool
+is_dir_row t d = list_any (λ blob. is_blob d blob && is_some blob.edges) t.blobs
+
+-- no digest has two rows
+abbrev pub Distinct : List Linked → Type 0
+Distinct [] = Unit {0}
+Distinct (blob ∷ blobs) = AllByRecursion (λ other. other.digest ≢ blob.digest) blobs × Distinct blobs
+
+-- ---- the order of use
+
+-- the digests without this one
+abbrev pub other_digests : HashAndSize → List HashAndSize → List HashAndSize
+other_digests d ds = filter (λ other. not (same other d)) ds
+
+-- the digests that aren't guarded, in the order of use
+abbrev pub unguarded : Table → List HashAndSize → List HashAndSize
+unguarded t order = filter (λ d. not (is_guarded t d)) order
+
+-- no digest stands twice
+abbrev pub DistinctDigests : List HashAndSize → Type 0
+DistinctDigests [] = Unit {0}
+DistinctDigests (d ∷ ds) = AllByRecursion (λ other. other ≢ d) ds × DistinctDigests ds

@@ -1,0 +1,4 @@
+pub mod Told
+pub mod Noted
+pub mod Counted
+pub mod Seated
