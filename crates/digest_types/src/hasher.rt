@@ -34,6 +34,20 @@ impl Hasher {
         self.size += bytes.len() as u64;
     }
 
+    /// The digest of what was added so far. It takes no memory.
+    #[tactic(auto, unfolding(crate::specs::Digest::digest_of))]
+    pub fn so_far(&self) -> Digest
+        requires { added_len self.now ≤ 2 ^ 60 }
+        ensures value { (bytes : List ℕ) → Holds self.now bytes → result ≡ digest_of bytes }
+        ensures is { IsDigest result }
+    {
+        let inner = self.inner.clone().unwrap();
+        Digest {
+            hash: inner.finalize(),
+            size: self.size,
+        }
+    }
+
     /// The digest of all that was added.
     #[tactic(auto, unfolding(crate::specs::Digest::digest_of))]
     pub fn finish(self) -> Digest

@@ -21,10 +21,11 @@ fn a_digest_is_the_hash_and_the_size(rt: HostRuntime) -> Result<(), Fail> {
     hasher.update(b"a");
     hasher.update(b"");
     hasher.update(b"bc");
-    let cases: [(Digest, &[u8], &[u8]); 4] = [
+    let cases: [(Digest, &[u8], &[u8]); 5] = [
         (Digest::of(b""), EMPTY, EMPTY_MESSAGE),
         (Digest::empty(), EMPTY, EMPTY_MESSAGE),
         (Digest::of(b"abc"), ABC, MESSAGE),
+        (hasher.so_far(), ABC, MESSAGE),
         (hasher.finish(), ABC, MESSAGE),
     ];
     for (digest, printed, message) in cases {

@@ -121,7 +121,7 @@ impl Core {
         self.serve(owner, event)
     }
 
-    // An event of an owner that is open.
+    // An event that is served: Open, or one of an owner that is open.
     #[tactic(auto, unfolding(crate::specs::Step::served))]
     fn serve(&mut self, owner: u64, event: &Event) -> Result<Reply, OutOfMemory>
         requires open { (is_opening event.now || is_open self.old owner) ≡ true }

@@ -1,0 +1,4 @@
+pub mod MemoryLemmas
+pub mod TakingLemmas
+pub mod ViewLaws
+pub mod VisitLaws

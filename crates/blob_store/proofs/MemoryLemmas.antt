@@ -1,0 +1,53 @@
+-- What the calls of the shelf in memory leave.
+use Rattle.std.proofs.Common.{◌≡◌, ◌≤◌, ◌^◌, ℕ, suc, List, [], ◌∷◌, length, min, map, drop, Option, Some, None, Result, Ok, Err, IfSome, IfOk, OnOk, OnErr, IsErrOf, refl, sym, ap, ◌∙◌, arith}
+use Rattle.blob_store.specs.declared.shelf.ShelfEnd.{ShelfEnd}
+use Rattle.blob_store.specs.declared.shelf.ShelfEnd.TheVariants.{Failed, OutOfMemory}
+use Rattle.blob_store.specs.Shelves.{Stays, Finds}
+use Rattle.blob_store.specs.declared.memory.MemBody.{MemBody}
+use Rattle.blob_store.specs.Memory.{MemState, shelved_of, after_call, after_fault, after_draft, after_found, first_body, body_with, told_if}
+
+-- a call that finds no body leaves those that are to be found
+pub stays_by : (old new : MemState) → new.found ≡ old.found → old.faults ≤ new.faults → Stays (shelved_of old) (shelved_of new)
+stays_by old new found later = record {
+  found = ap (λ (bodies : List (List ℕ)). Some (map (λ bytes. Some bytes) bodies)) found;
+  to_find = omega (arith, ap (λ (bodies : List (List ℕ)). min (length bodies) (2 ^ 63)) found);
+  later = later;
+}
+
+-- the same of the call that makes a draft
+pub stays_draft : {T : Type 0} (r : Result T ShelfEnd) (old new : MemState) → OnOk r (new ≡ after_draft old) → OnErr r (new ≡ after_fault old) → old.faults ≤ new.faults → Stays (shelved_of old) (shelved_of new)
+stays_draft (Ok x) old new ok err later = stays_by old new (ap (λ (s : MemState). s.found) ok) later
+stays_draft (Err e) old new ok err later = stays_by old new (ap (λ (s : MemState). s.found) err) later
+
+-- the same of a call that takes no memory
+pub stays_call : {T E : Type 0} (r : Result T E) (old new : MemState) → OnOk r (new ≡ after_call old) → OnErr r (new ≡ after_fault old) → old.faults ≤ new.faults → Stays (shelved_of old) (shelved_of new)
+stays_call (Ok x) old new ok err later = stays_by old new (ap (λ (s : MemState). s.found) ok) later
+stays_call (Err e) old new ok err later = stays_by old new (ap (λ (s : MemState). s.found) err) later
+
+-- the same of a call that may want memory
+pub stays_memory : {T : Type 0} (r : Result T ShelfEnd) (old new : MemState) → OnOk r (new ≡ after_call old) → (IsErrOf r Failed → new ≡ after_fault old) → (IsErrOf r OutOfMemory → new ≡ after_call old) → old.faults ≤ new.faults → Stays (shelved_of old) (shelved_of new)
+stays_memory (Ok x) old new ok fault memory later = stays_by old new (ap (λ (s : MemState). s.found) ok) later
+stays_memory (Err Failed) old new ok fault memory later = stays_by old new (ap (λ (s : MemState). s.found) (fault refl)) later
+stays_memory (Err OutOfMemory) old new ok fault memory later = stays_by old new (ap (λ (s : MemState). s.found) (memory refl)) later
+
+-- bytes that are told
+abbrev tell : List ℕ → Option (List ℕ)
+tell bytes = Some bytes
+
+-- the body that is found first tells the first bytes
+first_is : (bodies : List (List ℕ)) (b : MemBody) → Some b ≡ first_body bodies → (rest : List (List ℕ)) × (bodies ≡ b.bytes ∷ rest) × (told_if b.told b.bytes ≡ Some b.bytes)
+first_is [] b e = absurd cc
+first_is (bytes ∷ rest) b e =
+    let same : b ≡ body_with bytes = cc in
+    (rest, ap (λ (x : List ℕ). x ∷ rest) (sym (ap (λ (c : MemBody). c.bytes) same)), rw same refl)
+
+-- the first body is found, and those behind it are left
+pub finds_first : (r : Result (Option MemBody) ShelfEnd) (old new : MemState) → IfOk r (λ o. o ≡ first_body old.found) → OnOk r (new ≡ after_found old) → OnOk r (length old.found ≤ 2 ^ 63) → IfOk r (λ o. IfSome o (λ b. Finds (shelved_of old) (shelved_of new) (told_if b.told b.bytes)))
+finds_first (Ok (Some b)) old new found ok few =
+    let first = first_is old.found b found in
+    let left : new.found ≡ first.0 = ap (λ (s : MemState). s.found) ok ∙ ap (drop 1) first.1 in
+    let one : length old.found ≡ suc (length first.0) = ap length first.1 in
+    let fewer : length new.found ≡ length first.0 = ap length left in
+    (omega arith, (map tell first.0, ap (map tell) first.1 ∙ ap (λ (x : Option (List ℕ)). x ∷ map tell first.0) (sym first.2), ap (λ (s : List (List ℕ)). Some (map tell s)) left))
+finds_first (Ok None) old new found ok few = tt
+finds_first (Err e) old new found ok few = tt

@@ -1,0 +1,26 @@
+-- The answers of a door's calls, by the replies.
+use Rattle.std.specs.Prelude.{◌≡◌, [], Option, Some, None}
+use Rattle.digest_types.specs.Name.{HashAndSize}
+use Rattle.store_core.specs.declared.event.Reply.{Reply}
+use Rattle.store_core.specs.declared.event.Reply.TheVariants as replies
+use Rattle.blob_store.specs.Bodies.{ReadingState, HasRead}
+use Rattle.blob_store.specs.declared.door.PutReply.{PutReply}
+use Rattle.blob_store.specs.declared.door.PutReply.TheVariants as puts
+
+-- the reply that a put's answer stands for
+abbrev pub put_reply : PutReply → Reply
+put_reply (puts.Stored removed used) = replies.Stored removed used
+put_reply puts.Present = replies.Present
+put_reply puts.Repaired = replies.Repaired
+put_reply (puts.NoSpace guarded size high) = replies.NoSpace guarded size high
+
+-- the reply that the answer to a read stands for
+abbrev pub read_reply : Option ReadingState → Reply
+read_reply None = replies.Absent
+read_reply (Some reading) = replies.Found
+
+-- a reading of this digest of which nothing was read
+pub record Begins (digest : HashAndSize) (reading : ReadingState) : Type 0 where
+  pub want : reading.want ≡ digest
+  pub going : reading.end ≡ None
+  pub begun : HasRead reading []

@@ -1,0 +1,39 @@
+-- What a shelf tells, and what its calls leave.
+use Rattle.std.specs.Prelude.{◌≡◌, ◌≤◌, ◌<◌, ◌++◌, ℕ, List, [], ◌∷◌, length, take, Option, Some, None, IfSome, Result, IsErrOf}
+use Rattle.casd_base.specs.Causes.{Rose}
+use Rattle.blob_store.specs.declared.shelf.ShelfEnd.{ShelfEnd}
+use Rattle.blob_store.specs.declared.shelf.ShelfEnd.TheVariants.{Failed}
+
+-- How many calls failed, up to 2^64 - 1; the bodies that are still to be found, in order and each with its bytes where
+-- it tells them, if the shelf tells that; and a number that falls with each body that is found.
+pub record Shelved : Type 0 where
+  pub faults : ℕ
+  pub found : Option (List (Option (List ℕ)))
+  pub to_find : ℕ
+
+-- a call that finds no body leaves those that are to be found, and the count of faults never falls
+pub record Stays (old new : Shelved) : Type 0 where
+  pub found : new.found ≡ old.found
+  pub to_find : new.to_find ≤ old.to_find
+  pub later : old.faults ≤ new.faults
+
+-- a fault is answered only where it was counted
+abbrev pub HasShelfCause : {T : Type 0} → Shelved → Shelved → Result T ShelfEnd → Type 0
+HasShelfCause old new result = IsErrOf result Failed → Rose old.faults new.faults
+
+-- what a draft tells grows by just these bytes; one that tells nothing goes on so
+abbrev pub appended : Option (List ℕ) → List ℕ → Option (List ℕ)
+appended None bytes = None
+appended (Some old) bytes = Some (old ++ bytes)
+
+-- a front of the bytes was appended
+abbrev pub HasPart : Option (List ℕ) → Option (List ℕ) → List ℕ → Type 0
+HasPart old new bytes = (n : ℕ) × (n ≤ length bytes) × (new ≡ appended old (take n bytes))
+
+-- one more body was found: the first of those that were to be, where the shelf tells them
+abbrev pub Finds : Shelved → Shelved → Option (List ℕ) → Type 0
+Finds old new body = (new.to_find < old.to_find) × IfSome old.found (λ bodies. (rest : List (Option (List ℕ))) × (bodies ≡ body ∷ rest) × (new.found ≡ Some rest))
+
+-- none is to be found any more
+abbrev pub FindsNone : Shelved → Shelved → Type 0
+FindsNone old new = (new.found ≡ old.found) × IfSome old.found (λ bodies. bodies ≡ [])

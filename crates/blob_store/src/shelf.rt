@@ -1,0 +1,115 @@
+//! `Shelf`.
+
+ghost use Rattle.std.specs.Prelude.{◌≡◌, ◌+◌, ◌<◌, ◌≤◌, ◌^◌, ◌⊎◌, ℕ, [], List, Option, length, take, drop, IfOk, OnOk, OnErr, IfSome, IfNone};
+ghost use Rattle.blob_store.specs.Shelves.{Shelved, Stays, HasShelfCause, appended, HasPart, Finds, FindsNone};
+ghost use Rattle.casd_base.specs.Causes.{HasCause};
+ghost use Rattle.blob_store.specs.declared.shelf.ShelfEnd.TheVariants.{Failed as Fault, OutOfMemory as NoMemory};
+
+use casd_base::Failed;
+use proto_wire::OutOfMemory;
+
+/// Why a shelf refuses.
+#[derive(Clone, Copy, Debug, PartialEq, Eq)]
+pub enum ShelfEnd {
+    /// The outside failed, and it was counted.
+    Failed,
+    OutOfMemory,
+}
+
+impl From<Failed> for ShelfEnd {
+    ghost from_gives = { λ _ e. e ≡ Fault };
+
+    fn from(_e: Failed) -> ShelfEnd {
+        ShelfEnd::Failed
+    }
+}
+
+impl From<OutOfMemory> for ShelfEnd {
+    ghost from_gives = { λ _ e. e ≡ NoMemory };
+
+    fn from(_e: OutOfMemory) -> ShelfEnd {
+        ShelfEnd::OutOfMemory
+    }
+}
+
+/// Where bodies of blobs are kept. A draft takes bytes until it is sealed and is a body then; a reader reads a body, also
+/// one that was discarded since. A draft, a body and a reader may each tell its bytes, as the double in memory does. A
+/// draft or body that is dropped and not given back stays where it is.
+pub trait Shelf {
+    type Draft: Drop;
+
+    type Body: Drop;
+
+    type Reader: Drop;
+
+    // the count of faults, and the bodies to be found
+    ghost shelved: { Self → Shelved };
+
+    // the bytes of a draft, of a body and of a reader's body, where they are told
+    ghost drafted: { Self.Draft → Option (List ℕ) };
+
+    ghost kept: { Self.Body → Option (List ℕ) };
+
+    ghost lent: { Self.Reader → Option (List ℕ) };
+
+    /// A draft without bytes.
+    fn draft(&mut self) -> Result<Self::Draft, ShelfEnd>
+        ensures empty { IfOk result (λ d. IfSome (drafted d) (λ bytes. bytes ≡ [])) }
+        ensures stays { Stays (shelved self.old) (shelved self.new) }
+        ensures cause { HasShelfCause (shelved self.old) (shelved self.new) result };
+
+    /// Appends bytes. A draft whose call was refused may hold a part of them.
+    fn append(&mut self, draft: &mut Self::Draft, bytes: &[u8]) -> Result<(), ShelfEnd>
+        ensures ok { OnOk result (drafted draft.new ≡ appended (drafted draft.old) bytes.now) }
+        ensures err { OnErr result (HasPart (drafted draft.old) (drafted draft.new) bytes.now) }
+        ensures stays { Stays (shelved self.old) (shelved self.new) }
+        ensures cause { HasShelfCause (shelved self.old) (shelved self.new) result };
+
+    /// Makes a draft a body. Where it is refused the draft is given up.
+    fn seal(&mut self, draft: Self::Draft) -> Result<Self::Body, ShelfEnd>
+        ensures body { IfOk result (λ b. IfSome (kept b) (λ bytes. drafted draft ≡ Some bytes)) }
+        ensures stays { Stays (shelved self.old) (shelved self.new) }
+        ensures cause { HasShelfCause (shelved self.old) (shelved self.new) result };
+
+    /// A reader of a body.
+    fn reader(&mut self, body: &Self::Body) -> Result<Self::Reader, ShelfEnd>
+        ensures body { IfOk result (λ r. lent r ≡ kept body.now) }
+        ensures stays { Stays (shelved self.old) (shelved self.new) }
+        ensures cause { HasShelfCause (shelved self.old) (shelved self.new) result };
+
+    /// Reads from a place on into the front of the buffer, and answers how many bytes. For a buffer that isn't empty, 0
+    /// is the body's end.
+    fn read_at(
+        &mut self,
+        reader: &mut Self::Reader,
+        at: u64,
+        buf: &mut [u8],
+    ) -> Result<usize, Failed>
+        ensures bound { IfOk result (λ n. n ≤ length buf.new) }
+        ensures bytes { IfOk result (λ n. IfSome (lent reader.old) (λ all. take n buf.new ≡ take n (drop at all))) }
+        ensures some { IfOk result (λ n. IfSome (lent reader.old) (λ all. at + n ≤ length all ⊎ (n ≡ 0))) }
+        ensures ended { IfOk result (λ n. n ≡ 0 → 0 < length buf.new → IfSome (lent reader.old) (λ all. length all ≤ at)) }
+        ensures reader { lent reader.new ≡ lent reader.old }
+        ensures stays { Stays (shelved self.old) (shelved self.new) }
+        ensures cause { HasCause (shelved self.old).faults (shelved self.new).faults result };
+
+    /// Gives a body up.
+    fn discard(&mut self, body: Self::Body)
+        ensures { shelved self.new ≡ shelved self.old };
+
+    /// Gives a draft up.
+    fn drop_draft(&mut self, draft: Self::Draft)
+        ensures { shelved self.new ≡ shelved self.old };
+
+    /// The next of the bodies that stood there when the shelf was made, each once, or None where there is none left.
+    fn next_found(&mut self) -> Result<Option<Self::Body>, ShelfEnd>
+        ensures found { IfOk result (λ o. IfSome o (λ b. Finds (shelved self.old) (shelved self.new) (kept b))) }
+        ensures none { IfOk result (λ o. IfNone o (FindsNone (shelved self.old) (shelved self.new))) }
+        ensures err { OnErr result ((shelved self.new).found ≡ (shelved self.old).found) }
+        ensures to_find { (shelved self.new).to_find ≤ (shelved self.old).to_find }
+        ensures later { (shelved self.old).faults ≤ (shelved self.new).faults }
+        ensures cause { HasShelfCause (shelved self.old) (shelved self.new) result };
+
+    // a shelf has at most 2^63 bodies to find
+    ghost few: { (s : Self) → (shelved s).to_find ≤ 2 ^ 63 };
+}
