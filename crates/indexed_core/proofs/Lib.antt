@@ -1,0 +1,11 @@
+pub mod FlagLaws
+pub mod HeldLaws
+pub mod HeldWithout
+pub mod JoinedLaws
+pub mod MachineChanges
+pub mod MachineLaws
+pub mod MachinePuts
+pub mod MissingLaws
+pub mod ReachedRows
+pub mod RowChanges
+pub mod StandingOf

@@ -1,0 +1,82 @@
+use Rattle.std.proofs.Common.{◌≡◌, ◌∙◌, ◌∷◌, ◌++◌, [], List, Option, None, sym, ap, subst, refl, arith}
+use Rattle.digest_types.specs.Name.{HashAndSize}
+use Rattle.directory_canon.specs.declared.node.Edge.{Edge}
+use Rattle.store_core.specs.declared.event.Reply.TheVariants as replies
+use Rattle.store_core.specs.declared.state.Row.{Row}
+use Rattle.store_core.specs.State.{State, sizes}
+use Rattle.store_core.specs.Pass.{without}
+use Rattle.store_core.specs.Step.{put_over}
+use Rattle.store_core.proofs.Changes.{guarded_within, new_row}
+use Rattle.indexed_core.specs.Parts.{Parts}
+use Rattle.indexed_core.specs.Removal.{PutsRow}
+use Rattle.indexed_core.specs.contracts.machine.IndexedCore.{the_view}
+use Rattle.indexed_core.proofs.MachineLaws.{bytes_held}
+use Rattle.indexed_core.proofs.MachineChanges.{no_space_is, fits_of, rows_change}
+use Rattle.indexed_core.proofs.MachinePuts.{fits_other, fits_small, fits_keeps, fits_is, fits_puts}
+use Rattle.indexed_core.proofs.machine.IndexedCore.put_new.Goals as goal
+
+pub overflow_sub-high : goal.overflow_sub-high
+overflow_sub-high c =
+    let s = the_view c.self.inside in
+    omega (arith, c.held_bytes-guarded.ensures, bytes_held s c.self.inside.index refl c.self.invariant.0, guarded_within s, c.self.invariant.1.within)
+
+pub returns-then-size-high-clause-ok : goal.returns-then-size-high-clause-ok
+returns-then-size-high-clause-ok c =
+    let s = the_view c.self.inside in
+    no_space_is s c.args.self.now c.args.digest.now c.args.edges.now c.held_bytes-guarded.result c.digest.inside.size s.high c.self.view_is c.self.invariant.1
+    (c.held_bytes-guarded.ensures ∙ bytes_held s c.self.inside.index refl c.self.invariant.0) (ap (λ (x : HashAndSize). x.size) c.digest.view_is) refl c.if-size-high.true
+
+pub add-requires-clause-others : goal.add-requires-clause-others
+add-requires-clause-others c =
+    let s = the_view c.self.inside in
+    let held = c.held_bytes-guarded.ensures ∙ bytes_held s c.self.inside.index refl c.self.invariant.0 in
+    let fits = fits_of s c.args.self.now c.args.digest.now c.in_ok-gone.gone c.held_bytes-guarded.result c.digest.inside.size c.self.view_is c.self.invariant.1 c.requires.new c.requires.filled
+    held (ap (λ (x : HashAndSize). x.size) c.digest.view_is) c.if-size-high.false c.in_ok-gone.ensures in
+    fits_other s c.args.digest.now c.args.edges.now c.in_ok-gone.gone fits
+
+pub add-requires-clause-small : goal.add-requires-clause-small
+add-requires-clause-small c =
+    let s = the_view c.self.inside in
+    let held = c.held_bytes-guarded.ensures ∙ bytes_held s c.self.inside.index refl c.self.invariant.0 in
+    let fits = fits_of s c.args.self.now c.args.digest.now c.in_ok-gone.gone c.held_bytes-guarded.result c.digest.inside.size c.self.view_is c.self.invariant.1 c.requires.new c.requires.filled
+    held (ap (λ (x : HashAndSize). x.size) c.digest.view_is) c.if-size-high.false c.in_ok-gone.ensures in
+    omega (arith, fits_small s c.args.digest.now c.args.edges.now c.in_ok-gone.gone fits, c.self.inside.marks.small)
+
+pub invariant_of-self-2 : goal.invariant_of-self-2
+invariant_of-self-2 c =
+    let s = the_view c.self.inside in
+    let d = c.args.digest.now in
+    let edges = c.args.edges.now in
+    let held = c.held_bytes-guarded.ensures ∙ bytes_held s c.self.inside.index refl c.self.invariant.0 in
+    let fits = fits_of s c.args.self.now d c.in_ok-gone.gone c.held_bytes-guarded.result c.digest.inside.size c.self.view_is c.self.invariant.1 c.requires.new c.requires.filled
+    held (ap (λ (x : HashAndSize). x.size) c.digest.view_is) c.if-size-high.false c.in_ok-gone.ensures in
+    let added = c.in_ok-add.ensures.ok
+    ∙ ap (λ (o : Option (List Edge)). record { rows = without c.in_ok-gone.gone s.rows ++ new_row d o ∷ []; holds = c.self.inside.index.holds }) c.as_ref.ensures.value in
+    rows_change s c.add.new.self c.self.inside.index.holds (without c.in_ok-gone.gone s.rows ++ new_row d edges ∷ []) c.self.invariant.0 added (fits_keeps s d edges c.in_ok-gone.gone fits)
+
+pub returns-clause-ok : goal.returns-clause-ok
+returns-clause-ok c =
+    let s = the_view c.self.inside in
+    let d = c.args.digest.now in
+    let edges = c.args.edges.now in
+    let held = c.held_bytes-guarded.ensures ∙ bytes_held s c.self.inside.index refl c.self.invariant.0 in
+    let fits = fits_of s c.args.self.now d c.in_ok-gone.gone c.held_bytes-guarded.result c.digest.inside.size c.self.view_is c.self.invariant.1 c.requires.new c.requires.filled
+    held (ap (λ (x : HashAndSize). x.size) c.digest.view_is) c.if-size-high.false c.in_ok-gone.ensures in
+    let added = ap (λ (p : Parts). p.rows) c.in_ok-add.ensures.ok
+    ∙ ap (λ (o : Option (List Edge)). without c.in_ok-gone.gone s.rows ++ new_row d o ∷ []) c.as_ref.ensures.value in
+    subst (λ (rows : List Row). (replies.Stored c.len.result c.used.result, record s { rows = rows }) ≡ put_over c.args.self.now d edges None) (sym added)
+    (fits_is s d edges c.in_ok-gone.gone fits c.args.self.now c.len.result c.used.result c.self.view_is c.len.ensures (c.used.ensures ∙ ap sizes added))
+
+pub returns-clause-rows : goal.returns-clause-rows
+returns-clause-rows c =
+    let s = the_view c.self.inside in
+    let d = c.args.digest.now in
+    let edges = c.args.edges.now in
+    let held = c.held_bytes-guarded.ensures ∙ bytes_held s c.self.inside.index refl c.self.invariant.0 in
+    let fits = fits_of s c.args.self.now d c.in_ok-gone.gone c.held_bytes-guarded.result c.digest.inside.size c.self.view_is c.self.invariant.1 c.requires.new c.requires.filled
+    held (ap (λ (x : HashAndSize). x.size) c.digest.view_is) c.if-size-high.false c.in_ok-gone.ensures in
+    let added = ap (λ (p : Parts). p.rows) c.in_ok-add.ensures.ok
+    ∙ ap (λ (o : Option (List Edge)). without c.in_ok-gone.gone s.rows ++ new_row d o ∷ []) c.as_ref.ensures.value in
+    subst (λ (t : State). PutsRow d (replies.Stored c.len.result c.used.result) c.in_ok-gone.gone t.rows c.add.new.self.rows) c.self.view_is
+    (subst (λ (rows : List Row). PutsRow d (replies.Stored c.len.result c.used.result) c.in_ok-gone.gone s.rows rows) (sym added)
+    (fits_puts s d edges c.in_ok-gone.gone fits c.len.result c.used.result c.len.ensures))

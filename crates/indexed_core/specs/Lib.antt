@@ -1,0 +1,4 @@
+pub mod Parts
+pub mod Joined
+pub mod Removal
+pub mod Events

@@ -1,0 +1,36 @@
+-- Rows that go one after the other, and all at once.
+use Rattle.std.specs.Prelude.{◌≡◌, ◌&&◌, ◌||◌, not, ℕ, Bool, true, false, List, length, take}
+use Rattle.std.specs.List.{AllByRecursion}
+use Rattle.digest_types.specs.Name.{HashAndSize}
+use Rattle.store_core.specs.declared.state.Row.{Row}
+use Rattle.store_core.specs.declared.event.Reply.{Reply}
+use Rattle.store_core.specs.declared.event.Reply.TheVariants as replies
+use Rattle.store_core.specs.State.{State, same, is_among}
+use Rattle.store_core.specs.Pass.{unguarded, without}
+use Rattle.lease_table.specs.Table.{DistinctDigests}
+use Rattle.indexed_core.specs.Parts.{has_row}
+
+-- the state without the rows of the first unguarded digests
+abbrev pub removed : State → ℕ → State
+removed s count = record s { rows = without (take count (unguarded s)) s.rows }
+
+-- these are distinct digests of rows
+pub record AreRows (rows : List Row) (ds : List HashAndSize) : Type 0 where
+  pub distinct : DistinctDigests ds
+  pub there : AllByRecursion (λ d. has_row rows d ≡ true) ds
+
+-- whether a put with this reply added a row
+abbrev pub adds_row : Reply → Bool
+adds_row (replies.Stored removed used) = true
+adds_row _ = false
+
+-- how many rows a reply to a put tells that went
+abbrev pub told_gone : Reply → ℕ
+told_gone (replies.Stored removed used) = removed
+told_gone _ = 0
+
+-- A put of a digest with this reply removed the rows of `gone`, and added its row where it was stored.
+pub record PutsRow (digest : HashAndSize) (reply : Reply) (gone : List HashAndSize) (old new : List Row) : Type 0 where
+  pub rows : AreRows old gone
+  pub count : length gone ≡ told_gone reply
+  pub there : (d : HashAndSize) → has_row new d ≡ ((adds_row reply && same digest d) || (has_row old d && not (is_among gone d)))

@@ -1,0 +1,52 @@
+//! Which blobs are there.
+
+ghost use Rattle.std.specs.Prelude.{◌≡◌, IfOk};
+ghost use Rattle.store_core.specs.State.{is_empty};
+ghost use Rattle.store_core.specs.Step.{is_here, missing, touched_all};
+
+use crate::index::Index;
+use digest_types::Digest;
+use indexmap::IndexSet;
+use proto_wire::OutOfMemory;
+use std::alloc::Global;
+
+/// Whether this is the digest of no bytes.
+#[tactic(auto, using(store_core::proofs::Same::filled_from_size))]
+pub(crate) fn is_empty_blob(digest: &Digest) -> bool
+    ensures { result ≡ is_empty digest.now }
+{
+    digest.size == 0 && *digest == Digest::empty()
+}
+
+/// Whether a blob is there.
+pub(crate) fn is_here(index: &Index, digest: &Digest) -> bool
+    ensures { result ≡ is_here index.now.rows digest.now }
+{
+    is_empty_blob(digest) || index.is_sound(digest)
+}
+
+/// The blobs that aren't there, each once, in the order of their first mention.
+pub(crate) fn missing(
+    alloc: Global,
+    index: &Index,
+    digests: &[Digest],
+) -> Result<Vec<Digest>, OutOfMemory>
+    ensures { IfOk result (λ ds. ds.items ≡ missing index.now.rows digests.now) }
+{
+    let mut missing: IndexSet<Digest> = IndexSet::new(alloc);
+    for digest in digests {
+        if !is_here(index, digest) {
+            missing.insert(*digest)?;
+        }
+    }
+    Ok(missing.iter().copied().collect(alloc)?)
+}
+
+/// Makes the sound rows of these digests the most recent ones, one after the other. It takes no memory.
+pub(crate) fn touch_all(index: &mut Index, digests: &[Digest])
+    ensures { index.new ≡ record index.old { rows = touched_all digests.now index.old.rows } }
+{
+    for digest in digests {
+        index.touch(digest);
+    }
+}
