@@ -1,0 +1,47 @@
+-- The walk over the bits of one code after another, with the tables that are in the code.
+use Rattle.std.specs.Prelude.{◌≡◌, ◌<◌, ◌≤◌, ◌+◌, ◌*◌, ◌^◌, ℕ, Bool, List, [], ◌∷◌, ◌++◌, length, find, take, drop, sum, Option, Some, None}
+use Rattle.hpack_tables.specs.Huffman.{Code, one_length, number_bits, code_bits, same_bits, code_with, text_behind}
+use Rattle.hpack_tables.specs.declared.huffman.Walk.{Walk}
+use Rattle.hpack_tables.specs.declared.huffman.Step.{Step}
+use Rattle.hpack_tables.specs.declared.huffman.Step.TheVariants.{More, Symbol}
+use Rattle.hpack_tables.specs.declared.huffman.TheConstants.{COUNTS, SYMBOLS}
+
+-- the codes with more bits than these, by how many there are of each length: at as many bits the first would have this number
+abbrev pub codes_from : ℕ → ℕ → List ℕ → List ℕ → List Code
+codes_from len first [] symbols = []
+codes_from len first (count ∷ counts) symbols =
+    one_length (len + 1) (2 * first) (take count symbols) ++ codes_from (len + 1) (2 * first + count) counts (drop count symbols)
+
+-- the number behind the last of them
+abbrev pub end_of : ℕ → List ℕ → ℕ
+end_of first [] = first
+end_of first (count ∷ counts) = end_of (2 * first + count) counts
+
+-- the bits that were taken
+abbrev pub taken : Walk → List Bool
+taken w = number_bits w.len w.number
+
+-- where a walk may stand: only longer codes begin with its bits, and there are some
+pub record IsWalk (w : Walk) : Type 0 where
+  pub few : w.len ≤ 30
+  pub fits : w.number < 2 ^ w.len
+  pub least : w.first ≤ w.number
+  pub room : end_of w.first (drop w.len COUNTS) ≡ 2 ^ 30
+  pub symbols : w.at + sum (drop w.len COUNTS) ≡ 257
+  pub codes : (bits : List Bool) → w.len < length bits → code_with bits ≡ find (λ code. same_bits (code_bits code) bits) (codes_from w.len w.first (drop w.len COUNTS) (drop w.at SYMBOLS))
+
+-- what one more bit leads to
+abbrev pub StepsTo : Walk → Bool → Step → Type 0
+StepsTo w bit (More next) = IsWalk next × (taken next ≡ taken w ++ bit ∷ []) × (code_with (taken w ++ bit ∷ []) ≡ None)
+StepsTo w bit (Symbol symbol) = (symbol ≤ 256) × ((code : Code) × (code_with (taken w ++ bit ∷ []) ≡ Some code) × (code.symbol ≡ symbol))
+
+-- a text behind another
+abbrev pub later : List ℕ → Option (List ℕ) → Option (List ℕ)
+later front None = None
+later front (Some text) = Some (front ++ text)
+
+-- what the bits of one byte lead to, whatever comes behind them
+abbrev pub WalksTo : Walk → ℕ → List ℕ → List ℕ → Option Walk → Type 0
+WalksTo w byte old new None = (rest : List Bool) → text_behind (taken w) (number_bits 8 byte ++ rest) ≡ None
+WalksTo w byte old new (Some next) =
+    IsWalk next × ((rest : List Bool) → later old (text_behind (taken w) (number_bits 8 byte ++ rest)) ≡ later new (text_behind (taken next) rest))

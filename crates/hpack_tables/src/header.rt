@@ -1,0 +1,44 @@
+//! `Header`.
+
+ghost use Rattle.std.specs.Prelude.{◌≡◌, nat_le, Some, None, IfOk, if◌then◌else◌};
+ghost use Rattle.hpack_tables.specs.Table.{entry_of, size_of};
+
+use proto_wire::{Bytes, Listed, OutOfMemory};
+use std::alloc::Global;
+
+/// What the size of a header counts besides its name and its value (RFC 7541, section 4.1).
+pub(crate) const OVERHEAD: usize = 32;
+
+/// A header: its name and its value, as bytes.
+#[derive(Debug, Drop)]
+pub struct Header {
+    pub name: Bytes,
+    pub value: Bytes,
+}
+
+/// Headers, seen as the list of them.
+pub type Headers = Listed<Header>;
+
+impl Header {
+    /// Its size, if that is at most so much.
+    pub(crate) fn size_within(&self, most: usize) -> Option<usize>
+        ensures { result ≡ (if nat_le (size_of self.now) most then Some (size_of self.now) else None) }
+    {
+        let size = self
+            .name
+            .len()
+            .checked_add(self.value.len())?
+            .checked_add(OVERHEAD)?;
+        if size <= most { Some(size) } else { None }
+    }
+}
+
+/// A header with copies of a name and a value.
+pub(crate) fn copy_of(alloc: Global, name: &[u8], value: &[u8]) -> Result<Header, OutOfMemory>
+    ensures { IfOk result (λ header. header ≡ entry_of name.now value.now) }
+{
+    Ok(Header {
+        name: Bytes::copy_of(alloc, name)?,
+        value: Bytes::copy_of(alloc, value)?,
+    })
+}

@@ -1,0 +1,303 @@
+//! The code of strings (RFC 7541, section 5.2). A code is walked bit by bit, with the number that the first code of each
+//! length has.
+
+ghost use Rattle.std.specs.Prelude.{◌≡◌, ◌⊎◌, ◌<◌, ◌≤◌, ◌+◌, ◌^◌, ◌++◌, List, [], length, take, drop, slice_index, if◌then◌else◌, Some, None, IfOk, IfErr, OnOk, All};
+ghost use Rattle.hpack_tables.specs.declared.fault.HpackFault.TheVariants.{OutOfMemory as NoMemory, BadHuffman};
+ghost use Rattle.hpack_tables.specs.Huffman.{Code, IsHuffman, bits_of, is_padding, one_length, text_of};
+ghost use Rattle.hpack_tables.specs.HuffmanWalk.{IsWalk, StepsTo, WalksTo, taken};
+ghost use Rattle.hpack_tables.specs.HuffmanSpelling.{IsPadded, IsRest, IsSetBut, IsShort, bits_in};
+
+use crate::fault::HpackFault;
+use proto_wire::{Bytes, OutOfMemory};
+use std::alloc::Global;
+
+/// How many symbols have a code of one bit, of two, and so on (RFC 7541, appendix B).
+const COUNTS: [u32; 30] = [
+    0, 0, 0, 0, 10, 26, 32, 6, 0, 5, 3, 2, 6, 2, 3, 0, 0, 0, 3, 8, 13, 26, 29, 12, 4, 15, 19, 29,
+    0, 4,
+];
+
+/// The symbols in the order of their codes, the short ones first. 256 is the end symbol.
+const SYMBOLS: [u16; 257] = [
+    // 5 bits
+    48, 49, 50, 97, 99, 101, 105, 111, 115, 116,
+    // 6 bits
+    32, 37, 45, 46, 47, 51, 52, 53, 54, 55, 56, 57, 61, 65, 95, 98, 100, 102, 103, 104, 108, 109,
+    110, 112, 114, 117,
+    // 7 bits
+    58, 66, 67, 68, 69, 70, 71, 72, 73, 74, 75, 76, 77, 78, 79, 80, 81, 82, 83, 84, 85, 86, 87, 89,
+    106, 107, 113, 118, 119, 120, 121, 122,
+    // 8 bits
+    38, 42, 44, 59, 88, 90,
+    // 10 bits
+    33, 34, 40, 41, 63,
+    // 11 bits
+    39, 43, 124,
+    // 12 bits
+    35, 62,
+    // 13 bits
+    0, 36, 64, 91, 93, 126,
+    // 14 bits
+    94, 125,
+    // 15 bits
+    60, 96, 123,
+    // 19 bits
+    92, 195, 208,
+    // 20 bits
+    128, 130, 131, 162, 184, 194, 224, 226,
+    // 21 bits
+    153, 161, 167, 172, 176, 177, 179, 209, 216, 217, 227, 229, 230,
+    // 22 bits
+    129, 132, 133, 134, 136, 146, 154, 156, 160, 163, 164, 169, 170, 173, 178, 181, 185, 186, 187,
+    189, 190, 196, 198, 228, 232, 233,
+    // 23 bits
+    1, 135, 137, 138, 139, 140, 141, 143, 147, 149, 150, 151, 152, 155, 157, 158, 165, 166, 168,
+    174, 175, 180, 182, 183, 188, 191, 197, 231, 239,
+    // 24 bits
+    9, 142, 144, 145, 148, 159, 171, 206, 215, 225, 236, 237,
+    // 25 bits
+    199, 207, 234, 235,
+    // 26 bits
+    192, 193, 200, 201, 202, 205, 210, 213, 218, 219, 238, 240, 242, 243, 255,
+    // 27 bits
+    203, 204, 211, 212, 214, 221, 222, 223, 241, 244, 245, 246, 247, 248, 250, 251, 252, 253, 254,
+    // 28 bits
+    2, 3, 4, 5, 6, 7, 8, 11, 12, 14, 15, 16, 17, 18, 19, 20, 21, 23, 24, 25, 26, 27, 28, 29, 30,
+    31, 127, 220, 249,
+    // 30 bits
+    10, 13, 22, 256,
+];
+
+/// The end symbol.
+const END: u16 = 256;
+
+/// The bits of a byte.
+const BYTE: u32 = 8;
+
+/// A padding has fewer bits than this.
+const PADDING: u32 = 8;
+
+/// Where the walk stands within a code: the bits that were taken, as a number, and how many; the number that the first of
+/// the longer codes would have at as many bits; and the place of its symbol.
+#[derive(Clone, Copy)]
+struct Walk {
+    number: u32,
+    len: u32,
+    first: u32,
+    at: usize,
+}
+
+/// Before the first bit of a code.
+const BEGIN: Walk = Walk {
+    number: 0,
+    len: 0,
+    first: 0,
+    at: 0,
+};
+
+/// What a bit leads to.
+enum Step {
+    /// The code goes on.
+    More(Walk),
+    /// It is the code of this symbol.
+    Symbol(u16),
+}
+
+/// The number of a bit.
+fn number_of(bit: bool) -> u32
+    ensures { result ≡ (if bit then 1 else 0) }
+{
+    u32::from(bit)
+}
+
+/// How many codes have one bit more than this.
+fn count_at(len: u32) -> u32
+    requires { len < 30 }
+    ensures { result ≡ slice_index COUNTS len }
+{
+    COUNTS[len as usize]
+}
+
+/// The symbol whose code is at this place.
+fn symbol_at(at: usize) -> u16
+    requires { at < 257 }
+    ensures { result ≡ slice_index SYMBOLS at }
+{
+    SYMBOLS[at]
+}
+
+/// The step of one more bit.
+fn next_bit(walk: Walk, bit: bool) -> Step
+    requires { IsWalk walk }
+    ensures { StepsTo walk bit result }
+{
+    let number = 2 * walk.number + number_of(bit);
+    let first = 2 * walk.first;
+    let count = count_at(walk.len);
+    if number - first < count {
+        return Step::Symbol(symbol_at(walk.at + (number - first) as usize));
+    }
+    Step::More(Walk {
+        number,
+        len: walk.len + 1,
+        first: first + count,
+        at: walk.at + count as usize,
+    })
+}
+
+/// Walks over a byte, and adds the symbols that end in it. The walk behind it, or None at the end symbol.
+fn next_byte(from: Walk, byte: u8, text: &mut Vec<u8>) -> Result<Option<Walk>, OutOfMemory>
+    requires { IsWalk from }
+    ensures { IfOk result (λ next. WalksTo from byte text.old.items text.new.items next) }
+{
+    let mut walk = from;
+    let mut left = BYTE;
+    'bits: while left > 0 {
+        left -= 1;
+        match next_bit(walk, (byte >> left) % 2 == 1) {
+            Step::More(next) => walk = next,
+            Step::Symbol(symbol) => {
+                if symbol == END {
+                    return Ok(None);
+                }
+                text.push(symbol as u8)?;
+                walk = BEGIN;
+            }
+        }
+    }
+    Ok(Some(walk))
+}
+
+/// Whether the bits of a walk are a padding.
+fn is_padded(walk: Walk) -> bool
+    requires { IsWalk walk }
+    ensures { result ≡ is_padding (taken walk) }
+{
+    walk.len < PADDING && walk.number + 1 == 1 << walk.len
+}
+
+/// The text of a coded string, or None where it is none.
+pub(crate) fn text_in(alloc: Global, bytes: &[u8]) -> Result<Option<Bytes>, OutOfMemory>
+    ensures { IfOk result (λ text. text ≡ text_of bytes.now) }
+{
+    // The shortest code has five bits.
+    let most = bytes.len() / 5 * 8 + bytes.len() % 5 * 8 / 5;
+    let mut text = Vec::with_capacity(alloc, most)?;
+    let mut walk = BEGIN;
+    for byte in bytes {
+        match next_byte(walk, *byte, &mut text)? {
+            Some(next) => walk = next,
+            None => return Ok(None),
+        }
+    }
+    if is_padded(walk) {
+        Ok(Some(Bytes::from_vec(text)))
+    } else {
+        Ok(None)
+    }
+}
+
+/// The text of a coded string. `BadHuffman` is at 0.
+pub fn huffman_decode(alloc: Global, bytes: &[u8]) -> Result<Bytes, HpackFault>
+    ensures ok { IfOk result (λ text. text_of bytes.now ≡ Some text) }
+    ensures err { IfErr result (λ e. (e ≡ NoMemory) ⊎ ((e ≡ BadHuffman 0) × (text_of bytes.now ≡ None))) }
+{
+    match text_in(alloc, bytes)? {
+        Some(text) => Ok(text),
+        None => Err(HpackFault::BadHuffman { at: 0 }),
+    }
+}
+
+/// Some bits, as a number.
+#[derive(Clone, Copy)]
+struct Bits {
+    number: u32,
+    len: u32,
+}
+
+/// No bits.
+const NO_BITS: Bits = Bits { number: 0, len: 0 };
+
+/// The symbols whose codes are at these places.
+fn symbols_at(at: usize, count: usize) -> &'static [u16]
+    requires { at + count ≤ 257 }
+    ensures { result.now ≡ take count (drop at SYMBOLS) }
+{
+    &SYMBOLS[at..at + count]
+}
+
+/// Sets the codes of the symbols of one length, from the first number on.
+fn set_codes(codes: &mut [Bits], len: u32, first: u32, symbols: &[u16])
+    requires enough { length codes.old ≡ 257 }
+    requires symbols { All (λ symbol. symbol < 257) symbols.now }
+    requires fits { first + length symbols.now < 2 ^ 32 }
+    ensures { (rest : List Code) → IsSetBut codes.old (one_length len first symbols.now ++ rest) → IsSetBut codes.new rest }
+{
+    let mut number = first;
+    for symbol in symbols {
+        codes[*symbol as usize] = Bits { number, len };
+        number += 1;
+    }
+}
+
+/// The codes of the symbols.
+fn codes_by_symbol() -> [Bits; 257]
+    ensures { IsSetBut result [] }
+{
+    let mut codes = [NO_BITS; 257];
+    let mut first = 0;
+    let mut at = 0;
+    for len in 0..30 {
+        let count = count_at(len);
+        first = 2 * first;
+        set_codes(&mut codes, len + 1, first, symbols_at(at, count as usize));
+        first += count;
+        at += count as usize;
+    }
+    codes
+}
+
+/// Appends a code behind bits that are no byte yet, and gives those that are none then.
+fn push_code(out: &mut Vec<u8>, before: Bits, code: Bits) -> Result<Bits, OutOfMemory>
+    requires before { IsRest before }
+    requires code { IsShort code }
+    ensures { IfOk result (λ rest. IsRest rest × (bits_of out.new.items ++ bits_in rest ≡ bits_of out.old.items ++ (bits_in before ++ bits_in code))) }
+{
+    let number = (u64::from(before.number) << code.len) + u64::from(code.number);
+    let mut left = before.len + code.len;
+    'bytes: while left >= BYTE {
+        left -= BYTE;
+        out.push(((number >> left) % 256) as u8)?;
+    }
+    Ok(Bits {
+        number: (number % (1 << left)) as u32,
+        len: left,
+    })
+}
+
+/// Appends bits that are no byte, with ones behind them up to a byte's end.
+fn push_rest(out: &mut Vec<u8>, rest: Bits) -> Result<(), OutOfMemory>
+    requires { IsRest rest }
+    ensures { OnOk result (IsPadded (bits_of out.new.items) (bits_of out.old.items ++ bits_in rest)) }
+{
+    if rest.len > 0 {
+        let ones = BYTE - rest.len;
+        let number = (rest.number << ones) + ((1 << ones) - 1);
+        out.push(number as u8)?;
+    }
+    Ok(())
+}
+
+/// The coded string of a text.
+pub fn huffman_encode(alloc: Global, bytes: &[u8]) -> Result<Bytes, OutOfMemory>
+    ensures { IfOk result (λ coded. IsHuffman coded bytes.now) }
+{
+    let codes = codes_by_symbol();
+    let mut out = Vec::new(alloc);
+    let mut rest = NO_BITS;
+    for byte in bytes {
+        rest = push_code(&mut out, rest, codes[*byte as usize])?;
+    }
+    push_rest(&mut out, rest)?;
+    Ok(Bytes::from_vec(out))
+}

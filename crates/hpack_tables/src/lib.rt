@@ -1,0 +1,30 @@
+//! HPACK (RFC 7541): header blocks become lists of headers by their grammar and the table of the connection, and lists of
+//! headers become blocks. It knows no frames: the session above it gives whole blocks, and their order.
+#![tactic(auto)]
+
+mod decode;
+mod encode;
+mod fault;
+mod header;
+mod huffman;
+mod integer;
+pub mod laws;
+mod offence;
+mod representation;
+mod static_table;
+mod string;
+mod table;
+
+pub use decode::decode_block;
+pub use encode::encode_block;
+pub use fault::HpackFault;
+pub use header::{Header, Headers};
+pub use huffman::{huffman_decode, huffman_encode};
+pub use table::Table;
+
+#[cfg(test)]
+mod encoder_tests;
+#[cfg(test)]
+mod huffman_tests;
+#[cfg(test)]
+mod tests;

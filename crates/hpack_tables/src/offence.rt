@@ -1,0 +1,47 @@
+//! `Offence`.
+
+ghost use Rattle.std.specs.Prelude.{◌≡◌};
+ghost use Rattle.hpack_tables.specs.declared.offence.Offence.TheVariants.{OutOfMemory as NoMemory};
+
+use proto_wire::OutOfMemory;
+use std::alloc::{AllocError, AllocFailed};
+
+/// What is wrong with a representation.
+#[derive(Clone, Copy, Debug, PartialEq, Eq)]
+pub(crate) enum Offence {
+    /// The index has no entry.
+    Index,
+    /// The integer is above 2^32 - 1, or has more than five further bytes.
+    Int,
+    /// The string isn't coded by the code, or its padding is none.
+    Huffman,
+    /// A new maximum of the table stands behind a header, or is above 4,096.
+    Update,
+    /// The block ends inside it.
+    Truncated,
+    OutOfMemory,
+}
+
+impl From<OutOfMemory> for Offence {
+    ghost from_gives = { λ _ e. e ≡ NoMemory };
+
+    fn from(_e: OutOfMemory) -> Offence {
+        Offence::OutOfMemory
+    }
+}
+
+impl From<AllocError> for Offence {
+    ghost from_gives = { λ _ e. e ≡ NoMemory };
+
+    fn from(_e: AllocError) -> Offence {
+        Offence::OutOfMemory
+    }
+}
+
+impl<T: Drop> From<AllocFailed<T>> for Offence {
+    ghost from_gives = { λ _ e. e ≡ NoMemory };
+
+    fn from(_e: AllocFailed<T>) -> Offence {
+        Offence::OutOfMemory
+    }
+}
