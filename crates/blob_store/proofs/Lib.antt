@@ -1,3 +1,8 @@
+pub mod BenchCalls
+pub mod BenchLaws
+pub mod BenchSteps
+pub mod KeptBodies
+pub mod KeptRows
 pub mod MemoryLemmas
 pub mod TakingLemmas
 pub mod ViewLaws

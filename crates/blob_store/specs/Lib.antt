@@ -5,3 +5,8 @@ pub mod Taking
 pub mod View
 pub mod Calls
 pub mod Visits
+pub mod Applied
+pub mod Kept
+pub mod Noted
+pub mod Benched
+pub mod Asked

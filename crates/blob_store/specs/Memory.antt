@@ -1,5 +1,5 @@
 -- The shelf in memory as a plain value, and what its calls give.
-use Rattle.std.specs.Prelude.{◌+◌, ◌-◌, ◌%◌, ◌^◌, min, not, ℕ, Bool, true, List, [], ◌∷◌, length, map, drop, Option, Some, None, if◌then◌else◌}
+use Rattle.std.specs.Prelude.{◌+◌, ◌-◌, ◌%◌, ◌^◌, min, not, ℕ, Bool, true, false, List, [], ◌∷◌, length, map, drop, Option, Some, None, if◌then◌else◌}
 use Rattle.casd_base.specs.Memory.{counted}
 use Rattle.blob_store.specs.Shelves.{Shelved}
 use Rattle.blob_store.specs.declared.memory.MemDraft.{MemDraft}
@@ -7,7 +7,7 @@ use Rattle.blob_store.specs.declared.memory.MemBody.{MemBody}
 use Rattle.blob_store.specs.declared.memory.MemReader.{MemReader}
 
 -- the bytes of the bodies to be found; which calls fail and which drafts are spoilt, by their numbers from 0; how many
--- calls and drafts there were; the count of faults
+-- calls and drafts there were; the count of faults, and how many bodies were given up
 pub record MemState : Type 0 where
   pub found : List (List ℕ)
   pub failing : List ℕ
@@ -15,10 +15,16 @@ pub record MemState : Type 0 where
   pub calls : ℕ
   pub drafts : ℕ
   pub faults : ℕ
+  pub discarded : ℕ
+
+-- whether there are any numbers
+abbrev pub are_some : List ℕ → Bool
+are_some [] = false
+are_some (n ∷ numbers) = true
 
 -- what the shelf tells of itself
 abbrev pub shelved_of : MemState → Shelved
-shelved_of s = record { faults = s.faults; found = Some (map (λ bytes. Some bytes) s.found); to_find = min (length s.found) (2 ^ 63) }
+shelved_of s = record { faults = s.faults; discarded = s.discarded; may_fail = are_some s.failing; found = Some (map (λ bytes. Some bytes) s.found); to_find = min (length s.found) (2 ^ 63) }
 
 -- a call was made
 abbrev pub after_call : MemState → MemState
@@ -27,6 +33,10 @@ after_call s = record s { calls = counted s.calls }
 -- a call failed
 abbrev pub after_fault : MemState → MemState
 after_fault s = record s { calls = counted s.calls; faults = counted s.faults }
+
+-- a body was given up
+abbrev pub after_discard : MemState → MemState
+after_discard s = record s { discarded = counted s.discarded }
 
 -- a draft was made
 abbrev pub after_draft : MemState → MemState

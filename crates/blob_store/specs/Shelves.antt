@@ -1,25 +1,43 @@
 -- What a shelf tells, and what its calls leave.
-use Rattle.std.specs.Prelude.{◌≡◌, ◌≤◌, ◌<◌, ◌++◌, ℕ, List, [], ◌∷◌, length, take, Option, Some, None, IfSome, Result, IsErrOf}
+use Rattle.std.specs.Prelude.{◌≡◌, ◌≤◌, ◌<◌, ◌++◌, ◌+◌, ◌-◌, ◌^◌, min, ℕ, zero, suc, Bool, true, List, [], ◌∷◌, length, take, Option, Some, None, IfSome, Result, IsErrOf}
 use Rattle.casd_base.specs.Causes.{Rose}
 use Rattle.blob_store.specs.declared.shelf.ShelfEnd.{ShelfEnd}
 use Rattle.blob_store.specs.declared.shelf.ShelfEnd.TheVariants.{Failed}
 
--- How many calls failed, up to 2^64 - 1; the bodies that are still to be found, in order and each with its bytes where
--- it tells them, if the shelf tells that; and a number that falls with each body that is found.
+-- How many calls failed, and how many bodies were given up, each up to 2^64 - 1; whether a call may fail at all; the
+-- bodies that are still to be found, in order and each with its bytes where it tells them, if the shelf tells that; and a
+-- number that falls with each body that is found.
 pub record Shelved : Type 0 where
   pub faults : ℕ
+  pub discarded : ℕ
+  pub may_fail : Bool
   pub found : Option (List (Option (List ℕ)))
   pub to_find : ℕ
 
--- a call that finds no body leaves those that are to be found, and the count of faults never falls
+-- a call that finds no body leaves those that are to be found and gives none up, and the count of faults never falls
 pub record Stays (old new : Shelved) : Type 0 where
+  pub discarded : new.discarded ≡ old.discarded
+  pub may_fail : new.may_fail ≡ old.may_fail
   pub found : new.found ≡ old.found
   pub to_find : new.to_find ≤ old.to_find
   pub later : old.faults ≤ new.faults
 
--- a fault is answered only where it was counted
+-- a call failed: on a shelf whose calls may fail, and it was counted
+abbrev pub Fails : Shelved → Shelved → Type 0
+Fails old new = (old.may_fail ≡ true) × Rose old.faults new.faults
+
+-- a fault is answered only where a call failed
 abbrev pub HasShelfCause : {T : Type 0} → Shelved → Shelved → Result T ShelfEnd → Type 0
-HasShelfCause old new result = IsErrOf result Failed → Rose old.faults new.faults
+HasShelfCause old new result = IsErrOf result Failed → Fails old new
+
+-- so many more are counted, up to 2^64 - 1
+abbrev pub counting : ℕ → ℕ → ℕ
+counting zero n = n
+counting (suc more) n = min (n + suc more) (2 ^ 64 - 1)
+
+-- so many bodies were given up, and all else stays
+abbrev pub discarding : ℕ → Shelved → Shelved
+discarding count s = record s { discarded = counting count s.discarded }
 
 -- what a draft tells grows by just these bytes; one that tells nothing goes on so
 abbrev pub appended : Option (List ℕ) → List ℕ → Option (List ℕ)

@@ -8,10 +8,17 @@ use Rattle.store_core.specs.declared.event.Event.{Event}
 use Rattle.store_core.specs.declared.event.Event.TheVariants as events
 use Rattle.store_core.specs.declared.event.Reply.{Reply}
 use Rattle.store_core.specs.declared.event.Reply.TheVariants as replies
+use Rattle.blob_store.specs.declared.seat.Seat.{Seat}
+
+-- What a door of several seats keeps beside the one whose door it is: the place of that one, and the seats, where at its
+-- own place there stands one without an owner.
+pub record Aside : Type 0 where
+  pub place : ℕ
+  pub seats : List Seat
 
 -- The state at which the history begins; the seat's owner, if it has had one, and whether that is in the store now; the
 -- history that was seen; the owner's own entries; how many entries the seat has made; how many turns it may still take, and
--- how many it was given.
+-- how many it was given; and what the door keeps of other seats.
 pub record View : Type 0 where
   pub start : State
   pub owner : Option ℕ
@@ -21,6 +28,7 @@ pub record View : Type 0 where
   pub made : ℕ
   pub left : ℕ
   pub grant : ℕ
+  pub aside : Aside
 
 -- the state of the store after all that was seen
 abbrev pub state_of : View → State
@@ -64,6 +72,7 @@ pub record Turns (old new : View) (turns : ℕ) (made : List (Event × Reply)) :
   pub mine : new.mine ≡ old.mine ++ by owner made
   pub count : new.made ≡ old.made + length made
   pub grant : new.grant ≡ old.grant
+  pub aside : new.aside ≡ old.aside
   pub left : new.left ≤ old.left
   pub used : old.left ≤ new.left + turns
 
@@ -89,6 +98,7 @@ pub record Enters (old new : View) : Type 0 where
   pub last : (before : List Entry) × (new.seen ≡ before ++ new.mine)
   pub count : new.made ≡ old.made + 1
   pub grant : new.grant ≡ old.grant
+  pub aside : new.aside ≡ old.aside
   pub left : new.left ≤ old.left
   pub used : old.left ≤ new.left + 1
 
@@ -102,6 +112,7 @@ pub record StaysOut (old new : View) : Type 0 where
   pub seen : Extends old.seen new.seen
   pub count : new.made ≡ old.made
   pub grant : new.grant ≡ old.grant
+  pub aside : new.aside ≡ old.aside
   pub left : new.left ≤ old.left
   pub used : old.left ≤ new.left + 1
 
@@ -118,6 +129,7 @@ pub record Leaves (old new : View) : Type 0 where
   pub last : (before : List Entry) × (new.seen ≡ before ++ record { owner = owner; event = events.Close; reply = replies.Closed } ∷ [])
   pub count : new.made ≡ old.made + 1
   pub grant : new.grant ≡ old.grant
+  pub aside : new.aside ≡ old.aside
   pub left : new.left ≤ old.left
   pub used : old.left ≤ new.left + 1
 

@@ -3,6 +3,7 @@
 ghost use Rattle.std.specs.Prelude.{◌≡◌, IfSome, option_map};
 ghost use Rattle.digest_types.specs.Digest.{digest_of};
 ghost use Rattle.directory_canon.specs.Links.{links};
+ghost use Rattle.blob_store.specs.Shelves.{discarding};
 
 use crate::shelf::Shelf;
 use digest_types::Digest;
@@ -49,7 +50,7 @@ impl<K: Shelf> Checked<K> {
 
     /// Gives the body up. It takes no memory.
     pub fn give_up(self, shelf: &mut K)
-        ensures { K.shelved shelf.new ≡ K.shelved shelf.old }
+        ensures { K.shelved shelf.new ≡ discarding 1 (K.shelved shelf.old) }
     {
         let Checked { body, .. } = self;
         shelf.discard(body);

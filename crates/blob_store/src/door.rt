@@ -1,11 +1,11 @@
 //! `Door`.
 
-ghost use Rattle.std.specs.Prelude.{◌≡◌, ◌<◌, false, true, [], IfOk, OnOk, OnErr, IfSome};
+ghost use Rattle.std.specs.Prelude.{◌≡◌, ◌<◌, false, true, [], IfOk, OnOk, OnErr, IfSome, IsSome, None};
 ghost use Rattle.store_core.specs.declared.event.Event.TheVariants as events;
 ghost use Rattle.store_core.specs.declared.event.Reply.TheVariants as replies;
 ghost use Rattle.blob_store.specs.View.{View, IsSeated, IsSound, Makes, Waits, Enters, StaysOut, Leaves, MayCall, own_now, holds};
-ghost use Rattle.blob_store.specs.Calls.{put_reply, read_reply, Begins};
-ghost use Rattle.blob_store.specs.Shelves.{Stays, HasShelfCause};
+ghost use Rattle.blob_store.specs.Calls.{put_reply, put_discards, read_reply, Begins};
+ghost use Rattle.blob_store.specs.Shelves.{Stays, HasShelfCause, discarding};
 
 use crate::checked::Checked;
 use crate::reading::Reading;
@@ -39,7 +39,11 @@ pub trait Door<K: Shelf> {
 
     /// How many turns it may still take. It takes no memory and makes no entry.
     fn left(&self) -> u64
-        ensures { result ≡ (view self.now).left };
+        ensures left { result ≡ (view self.now).left }
+        // What it has seen is a legal history from a valid state.
+        ensures sound { IsSound (view self.now) }
+        // A seat that has entered has an owner, whose entries are its own.
+        ensures seated { (view self.now).entered ≡ true → IsSeated (view self.now) };
 
     /// A new owner comes.
     fn enter(&mut self) -> Result<(), OutOfMemory>
@@ -48,12 +52,18 @@ pub trait Door<K: Shelf> {
         ensures ok { OnOk result (Enters (view self.old) (view self.new)) }
         ensures err { OnErr result (StaysOut (view self.old) (view self.new)) };
 
-    /// Puts a blob. A body that isn't kept is discarded, also where memory runs out.
-    fn put(&mut self, shelf: &mut K, blob: Checked<K>) -> Result<PutReply, OutOfMemory>
-        requires { MayCall (view self.old) }
-        ensures ok { IfOk result (λ r. Makes (view self.old) (view self.new) (events.Put blob.digest blob.edges) (put_reply r)) }
+    /// What `put` does, with a blob that is taken out.
+    fn put_from(
+        &mut self,
+        shelf: &mut K,
+        blob: &mut Option<Checked<K>>,
+    ) -> Result<PutReply, OutOfMemory>
+        requires call { MayCall (view self.old) }
+        requires there { IsSome blob.old }
+        ensures taken { blob.new ≡ None }
+        ensures ok { IfOk result (λ r. IfSome blob.old (λ b. Makes (view self.old) (view self.new) (events.Put b.digest b.edges) (put_reply r))) }
         ensures err { OnErr result (Waits (view self.old) (view self.new)) }
-        ensures shelf { K.shelved shelf.new ≡ K.shelved shelf.old };
+        ensures shelf { K.shelved shelf.new ≡ discarding (put_discards result) (K.shelved shelf.old) };
 
     /// The blobs that aren't there, each once, in the order of their first mention.
     fn find(&mut self, digests: &Digests) -> Result<Digests, OutOfMemory>
@@ -98,7 +108,7 @@ pub trait Door<K: Shelf> {
     fn pass(&mut self, shelf: &mut K) -> Passed
         requires { MayCall (view self.old) }
         ensures made { Makes (view self.old) (view self.new) events.Pass (replies.Passed result.removed result.used) }
-        ensures shelf { K.shelved shelf.new ≡ K.shelved shelf.old };
+        ensures shelf { K.shelved shelf.new ≡ discarding result.removed (K.shelved shelf.old) };
 
     /// The numbers of the store. It takes no memory.
     fn usage(&mut self) -> Usage
@@ -111,9 +121,13 @@ pub trait Door<K: Shelf> {
         requires none { own_now (view self.old) ≡ [] }
         ensures { Leaves (view self.old) (view self.new) };
 
-    // what it has seen is a legal history from a valid state
-    ghost sound: { (d : Self) → IsSound (view d) };
-
-    // a seat that has entered has an owner, whose entries are its own
-    ghost seated: { (d : Self) → (view d).entered ≡ true → IsSeated (view d) };
+    /// Puts a blob. A body that isn't kept is discarded, also where memory runs out.
+    final fn put(&mut self, shelf: &mut K, blob: Checked<K>) -> Result<PutReply, OutOfMemory>
+        requires { MayCall (view self.old) }
+        ensures ok { IfOk result (λ r. Makes (view self.old) (view self.new) (events.Put blob.digest blob.edges) (put_reply r)) }
+        ensures err { OnErr result (Waits (view self.old) (view self.new)) }
+        ensures shelf { K.shelved shelf.new ≡ discarding (put_discards result) (K.shelved shelf.old) }
+    {
+        self.put_from(shelf, &mut Some(blob))
+    }
 }

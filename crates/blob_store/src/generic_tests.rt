@@ -16,7 +16,7 @@ use proto_wire::OutOfMemory;
 use std::alloc::Global;
 
 /// Puts a blob and finds its digest: whether nothing is missing then.
-fn put_then_find<K: Shelf, D: Door<K>>(
+pub(crate) fn put_then_find<K: Shelf, D: Door<K>>(
     door: &mut D,
     shelf: &mut K,
     blob: Checked<K>,
@@ -35,7 +35,7 @@ fn put_then_find<K: Shelf, D: Door<K>>(
 }
 
 /// Comes, reads a root under a lease on it, and goes: whether the root is there.
-fn leased_read<K: Shelf, D: Door<K>>(
+pub(crate) fn leased_read<K: Shelf, D: Door<K>>(
     door: &mut D,
     shelf: &mut K,
     root: &Digest,

@@ -1,13 +1,15 @@
 //! What holds of a seat's view alone, for callers of any door.
 
-ghost use Rattle.std.specs.Prelude.{◌≡◌, ◌≢◌, ◌≤◌, ◌+◌, ◌++◌, ◌∷◌, ℕ, true, List, [], Some};
+ghost use Rattle.std.specs.Prelude.{◌≡◌, ◌≢◌, ◌<◌, ◌≤◌, ◌+◌, ◌++◌, ◌∷◌, ℕ, true, false, List, [], length, slice_set, Some};
 ghost use Rattle.store_core.specs.declared.event.Event.{Event};
 ghost use Rattle.store_core.specs.declared.event.Event.TheVariants as events;
 ghost use Rattle.store_core.specs.declared.event.Reply.{Reply};
 ghost use Rattle.store_core.specs.declared.event.Reply.TheVariants as replies;
 ghost use Rattle.store_core.specs.Step.{step};
 ghost use Rattle.store_core.specs.History.{Entry, state, own, leases_of};
-ghost use Rattle.blob_store.specs.View.{View, IsSound, IsOwn, Extends, Turns, Makes, state_of, own_now};
+ghost use Rattle.turn_lock.specs.Noted.{entry};
+ghost use Rattle.blob_store.specs.View.{View, IsSound, IsOwn, Extends, Turns, Makes, Waits, Enters, StaysOut, Leaves, state_of, own_now};
+ghost use Rattle.blob_store.specs.Benched.{Benched, IsAtStep, store_of, seat_of, view_of, seated, unseated_now};
 
 /// Calls one after the other make their entries in that order, in so many turns together.
 pub fn turns_join()
@@ -28,4 +30,17 @@ pub fn replies_are_the_steps()
 pub fn own_leases_stand()
     ensures { (v : View) (owner : ℕ) (rest : List Entry) → IsSound v → v.owner ≡ Some owner → own owner v.seen ≡ v.mine
         → v.mine ≡ record { owner = owner; event = events.Open; reply = replies.Opened owner } ∷ rest → leases_of owner (state_of v) ≡ own_now v }
+{}
+
+/// All entries that are seen at a bench were made at it: a call's entry is the one step from the store before it to the
+/// store after it, and all else stays as it was.
+pub fn bench_goes_by_steps()
+    ensures makes { (old new : Benched) (owner : ℕ) (event : Event) (reply : Reply) → old.chosen < length old.seats → IsSound (view_of new) → Makes (view_of old) (view_of new) event reply → (seat_of old).owner ≡ Some owner
+        → IsAtStep old new owner event reply × (new.seats ≡ old.seats) }
+    ensures waits { (old new : Benched) → old.chosen < length old.seats → Waits (view_of old) (view_of new) → new ≡ old }
+    ensures enters { (old new : Benched) → old.chosen < length old.seats → IsSound (view_of new) → Enters (view_of old) (view_of new)
+        → IsAtStep old new (store_of old).next_owner events.Open (replies.Opened (store_of old).next_owner) × (new.seats ≡ slice_set old.seats old.chosen (seated (store_of old).next_owner)) }
+    ensures stays_out { (old new : Benched) → old.chosen < length old.seats → (seat_of old).entered ≡ false → StaysOut (view_of old) (view_of new) → new ≡ old }
+    ensures leaves { (old new : Benched) (owner : ℕ) → old.chosen < length old.seats → IsSound (view_of new) → Leaves (view_of old) (view_of new) → (seat_of old).owner ≡ Some owner
+        → IsAtStep old new owner events.Close replies.Closed × (new.seats ≡ slice_set old.seats old.chosen (unseated_now owner)) }
 {}

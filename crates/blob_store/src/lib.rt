@@ -3,23 +3,33 @@
 //! everything above it.
 #![tactic(auto)]
 
+mod bench;
+mod bodies;
 mod checked;
 mod door;
 mod filling;
 pub mod laws;
 mod memory;
+mod noting;
 mod reading;
+mod seat;
 mod shelf;
+mod store;
 mod taking;
 
+pub use bench::Bench;
 pub use checked::Checked;
 pub use door::{Door, Passed, PutReply};
 pub use filling::Filling;
 pub use memory::{MemBody, MemDraft, MemReader, MemShelf};
 pub use reading::{Reading, ReadingEnd};
+pub use seat::Seat;
 pub use shelf::{Shelf, ShelfEnd};
+pub use store::Store;
 
 #[cfg(test)]
 mod generic_tests;
+#[cfg(test)]
+mod store_tests;
 #[cfg(test)]
 mod tests;

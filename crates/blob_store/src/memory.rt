@@ -22,6 +22,7 @@ pub struct MemShelf {
     calls: u64,
     drafts: u64,
     faults: u64,
+    discarded: u64,
 }
 
 /// A draft in memory, and whether its body is going to be spoilt.
@@ -57,6 +58,7 @@ impl Model for MemShelf {
       calls = s.calls;
       drafts = s.drafts;
       faults = s.faults;
+      discarded = s.discarded;
     } };
 }
 
@@ -72,6 +74,7 @@ impl MemShelf {
           calls = 0;
           drafts = 0;
           faults = 0;
+          discarded = 0;
         } }
     {
         MemShelf {
@@ -82,7 +85,15 @@ impl MemShelf {
             calls: 0,
             drafts: 0,
             faults: 0,
+            discarded: 0,
         }
+    }
+
+    /// How many bodies were given up. It takes no memory.
+    pub fn discarded(&self) -> u64
+        ensures { result ≡ self.now.discarded }
+    {
+        self.discarded
     }
 
     /// How many calls failed. It takes no memory.
@@ -271,27 +282,27 @@ impl Shelf for MemShelf {
 
     ghost lent = { λ r. told_if r.told r.bytes };
 
-    #[tactic(auto, using(crate::proofs::MemoryLemmas::stays_draft))]
+    #[tactic(auto, using(crate::proofs::MemoryLemmas::stays_draft, crate::proofs::MemoryLemmas::some_fails))]
     fn draft(&mut self) -> Result<MemDraft, ShelfEnd> {
         self.next_draft()
     }
 
-    #[tactic(auto, using(crate::proofs::MemoryLemmas::stays_memory))]
+    #[tactic(auto, using(crate::proofs::MemoryLemmas::stays_memory, crate::proofs::MemoryLemmas::some_fails))]
     fn append(&mut self, draft: &mut MemDraft, bytes: &[u8]) -> Result<(), ShelfEnd> {
         self.next_append(draft, bytes)
     }
 
-    #[tactic(auto, using(crate::proofs::MemoryLemmas::stays_call))]
+    #[tactic(auto, using(crate::proofs::MemoryLemmas::stays_call, crate::proofs::MemoryLemmas::some_fails))]
     fn seal(&mut self, draft: MemDraft) -> Result<MemBody, ShelfEnd> {
         self.next_seal(draft)
     }
 
-    #[tactic(auto, using(crate::proofs::MemoryLemmas::stays_memory))]
+    #[tactic(auto, using(crate::proofs::MemoryLemmas::stays_memory, crate::proofs::MemoryLemmas::some_fails))]
     fn reader(&mut self, body: &MemBody) -> Result<MemReader, ShelfEnd> {
         self.next_reader(body)
     }
 
-    #[tactic(auto, using(crate::proofs::MemoryLemmas::stays_call))]
+    #[tactic(auto, using(crate::proofs::MemoryLemmas::stays_call, crate::proofs::MemoryLemmas::some_fails))]
     fn read_at(
         &mut self,
         reader: &mut MemReader,
@@ -303,13 +314,14 @@ impl Shelf for MemShelf {
 
     fn discard(&mut self, body: MemBody) {
         drop(body);
+        self.discarded = self.discarded.saturating_add(1);
     }
 
     fn drop_draft(&mut self, draft: MemDraft) {
         drop(draft);
     }
 
-    #[tactic(auto, using(crate::proofs::MemoryLemmas::finds_first))]
+    #[tactic(auto, using(crate::proofs::MemoryLemmas::finds_first, crate::proofs::MemoryLemmas::some_fails))]
     fn next_found(&mut self) -> Result<Option<MemBody>, ShelfEnd> {
         self.next_body()
     }

@@ -1,9 +1,8 @@
 //! `Reading`.
 
 ghost use Rattle.std.specs.Prelude.{◌≡◌, ◌<◌, ◌≤◌, ℕ, List, [], length, take, Some, None, Err, IfOk, IfErr, IfSome, OnOk, OnErr, IsErrOf, IfNone};
-ghost use Rattle.casd_base.specs.Causes.{Rose};
 ghost use Rattle.digest_types.specs.Digest.{digest_of};
-ghost use Rattle.blob_store.specs.Shelves.{Stays, HasShelfCause};
+ghost use Rattle.blob_store.specs.Shelves.{Stays, Fails, HasShelfCause};
 ghost use Rattle.blob_store.specs.Bodies.{HasRead, ReadsOn, ReadsPart, IsRead, Explains, limit_of};
 ghost use Rattle.blob_store.specs.declared.reading.ReadingEnd.TheVariants.{Failed as Fault};
 
@@ -102,7 +101,7 @@ impl<K: Shelf> Reading<K> {
         ensures ok { OnOk result (self.new.end ≡ None) }
         ensures err { IfErr result (λ e. self.new.end ≡ Some e) }
         ensures stays { Stays (K.shelved shelf.old) (K.shelved shelf.new) }
-        ensures cause { IfNone self.old.end (IsErrOf result Fault → Rose (K.shelved shelf.old).faults (K.shelved shelf.new).faults) }
+        ensures cause { IfNone self.old.end (IsErrOf result Fault → Fails (K.shelved shelf.old) (K.shelved shelf.new)) }
     {
         if let Some(end) = self.end {
             return Err(end);

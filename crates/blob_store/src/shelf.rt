@@ -1,8 +1,7 @@
 //! `Shelf`.
 
 ghost use Rattle.std.specs.Prelude.{◌≡◌, ◌+◌, ◌<◌, ◌≤◌, ◌^◌, ◌⊎◌, ℕ, [], List, Option, length, take, drop, IfOk, OnOk, OnErr, IfSome, IfNone};
-ghost use Rattle.blob_store.specs.Shelves.{Shelved, Stays, HasShelfCause, appended, HasPart, Finds, FindsNone};
-ghost use Rattle.casd_base.specs.Causes.{HasCause};
+ghost use Rattle.blob_store.specs.Shelves.{Shelved, Stays, Fails, HasShelfCause, discarding, appended, HasPart, Finds, FindsNone};
 ghost use Rattle.blob_store.specs.declared.shelf.ShelfEnd.TheVariants.{Failed as Fault, OutOfMemory as NoMemory};
 
 use casd_base::Failed;
@@ -42,7 +41,7 @@ pub trait Shelf {
 
     type Reader: Drop;
 
-    // the count of faults, and the bodies to be found
+    // the counts of faults and of bodies that were given up, and the bodies to be found
     ghost shelved: { Self → Shelved };
 
     // the bytes of a draft, of a body and of a reader's body, where they are told
@@ -91,11 +90,11 @@ pub trait Shelf {
         ensures ended { IfOk result (λ n. n ≡ 0 → 0 < length buf.new → IfSome (lent reader.old) (λ all. length all ≤ at)) }
         ensures reader { lent reader.new ≡ lent reader.old }
         ensures stays { Stays (shelved self.old) (shelved self.new) }
-        ensures cause { HasCause (shelved self.old).faults (shelved self.new).faults result };
+        ensures cause { OnErr result (Fails (shelved self.old) (shelved self.new)) };
 
     /// Gives a body up.
     fn discard(&mut self, body: Self::Body)
-        ensures { shelved self.new ≡ shelved self.old };
+        ensures { shelved self.new ≡ discarding 1 (shelved self.old) };
 
     /// Gives a draft up.
     fn drop_draft(&mut self, draft: Self::Draft)
@@ -108,6 +107,8 @@ pub trait Shelf {
         ensures err { OnErr result ((shelved self.new).found ≡ (shelved self.old).found) }
         ensures to_find { (shelved self.new).to_find ≤ (shelved self.old).to_find }
         ensures later { (shelved self.old).faults ≤ (shelved self.new).faults }
+        ensures discarded { (shelved self.new).discarded ≡ (shelved self.old).discarded }
+        ensures may_fail { (shelved self.new).may_fail ≡ (shelved self.old).may_fail }
         ensures cause { HasShelfCause (shelved self.old) (shelved self.new) result };
 
     // a shelf has at most 2^63 bodies to find

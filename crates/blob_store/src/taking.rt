@@ -1,10 +1,9 @@
 //! `Taking`.
 
 ghost use Rattle.std.specs.Prelude.{◌≡◌, ◌+◌, ◌<◌, ◌≤◌, ◌++◌, ◌⊎◌, ℕ, List, [], length, take, drop, Some, IfOk, IfErr, IfSome, OnOk, OnErr, IsErrOf};
-ghost use Rattle.casd_base.specs.Causes.{Rose, HasCause};
 ghost use Rattle.digest_types.specs.Digest.{digest_of};
 ghost use Rattle.digest_types.specs.Hasher.{Holds};
-ghost use Rattle.blob_store.specs.Shelves.{Stays, HasShelfCause};
+ghost use Rattle.blob_store.specs.Shelves.{Stays, Fails, HasShelfCause};
 ghost use Rattle.blob_store.specs.Bodies.{HasTaken, IsWhole, Ends, lent_by, limit_of};
 ghost use Rattle.blob_store.specs.declared.reading.ReadingEnd.TheVariants.{Failed as Fault};
 ghost use Rattle.blob_store.specs.Taking.{IsPlace, IsOther, TakesPiece, TakesPart};
@@ -96,7 +95,7 @@ impl<K: Shelf> Taking<K> {
         ensures want { self.new.want ≡ self.old.want }
         ensures told { lent_by K.lent self.new.reader ≡ lent_by K.lent self.old.reader }
         ensures stays { Stays (K.shelved shelf.old) (K.shelved shelf.new) }
-        ensures cause { HasCause (K.shelved shelf.old).faults (K.shelved shelf.new).faults result }
+        ensures cause { OnErr result (Fails (K.shelved shelf.old) (K.shelved shelf.new)) }
     {
         if buf.is_empty() {
             return Ok(0);
@@ -120,7 +119,7 @@ impl<K: Shelf> Taking<K> {
         ensures want { self.new.want ≡ self.old.want }
         ensures told { lent_by K.lent self.new.reader ≡ lent_by K.lent self.old.reader }
         ensures stays { Stays (K.shelved shelf.old) (K.shelved shelf.new) }
-        ensures cause { IsErrOf result Fault → Rose (K.shelved shelf.old).faults (K.shelved shelf.new).faults }
+        ensures cause { IsErrOf result Fault → Fails (K.shelved shelf.old) (K.shelved shelf.new) }
     {
         let room = buf.len().min(self.left() as usize);
         let count = self.take(shelf, &mut buf[..room])?;
@@ -144,7 +143,7 @@ fn read_at<K: Shelf>(
     ensures ended { IfOk result (λ n. n ≡ 0 → 0 < length buf.new → IfSome (lent_by K.lent reader.old) (λ all. length all ≤ at)) }
     ensures reader { lent_by K.lent reader.new ≡ lent_by K.lent reader.old }
     ensures stays { Stays (K.shelved shelf.old) (K.shelved shelf.new) }
-    ensures cause { HasCause (K.shelved shelf.old).faults (K.shelved shelf.new).faults result }
+    ensures cause { OnErr result (Fails (K.shelved shelf.old) (K.shelved shelf.new)) }
 {
     match reader {
         Some(reader) => shelf.read_at(reader, at, buf),

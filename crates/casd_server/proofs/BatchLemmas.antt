@@ -1,20 +1,14 @@
--- Puts of a request, one after the other: what they leave as it was.
-use Rattle.std.proofs.Common.{◌≡◌, ℕ, ◌+◌, ◌^◌, ◌<◌, ◌≤◌, ◌∙◌, Bool, true, false, cond, ◌&&◌, List, [], ◌∷◌, ◌++◌, length, map, get_or, drop, Option, Some, None, Result, Ok, Err, refl, sym, ap, append_assoc, add-one, drop-cons, arith}
+-- Puts of a request, one after the other.
+use Rattle.std.proofs.Common.{◌≡◌, ℕ, ◌+◌, ◌^◌, ◌<◌, ◌≤◌, ◌∙◌, Bool, true, false, ◌&&◌, List, [], ◌∷◌, ◌++◌, length, map, get_or, drop, Result, Ok, Err, refl, sym, ap, append_assoc, add-one, drop-cons, arith}
 use Rattle.std.specs.Prelude.{◌==◌, nat_le}
 use Rattle.std.specs.Int.{w32, cast_unsigned}
 use Rattle.std.specs.List.{AllByRecursion, list_all, sum_by}
 use Rattle.std.proofs.lemmas.Bool.{leb-true}
 use Rattle.std.proofs.lemmas.List.{append-nil, drop_all}
 use Rattle.std.proofs.lemmas.List.Sums.{sum_by-cons}
-use Rattle.digest_types.specs.Name.{HashAndSize}
 use Rattle.casd_base.specs.declared.status.Status.{Status}
-use Rattle.store_core.specs.declared.state.Row.{Row}
-use Rattle.store_core.specs.declared.event.Event.TheVariants as events
-use Rattle.store_core.specs.declared.event.Reply.{Reply}
-use Rattle.store_core.specs.State.{State, row_of}
-use Rattle.store_core.specs.Step.{with_room, put_over, put, served, step}
-use Rattle.directory_canon.specs.declared.node.Edge.{Edge}
-use Rattle.directory_canon.specs.Links.{links}
+use Rattle.store_core.specs.State.{State}
+use Rattle.store_core.specs.Step.{put}
 use Rattle.cas_messages.specs.Fault.{Gives}
 use Rattle.cas_messages.specs.declared.error.MessageError.{MessageError}
 use Rattle.cas_messages.specs.declared.error.MessageError.TheVariants as faults
@@ -24,56 +18,7 @@ use Rattle.cas_messages.specs.declared.blobs.BatchUpdateBlobsResponseItem1.{Batc
 use Rattle.cas_messages.specs.Meaning.{message_in}
 use Rattle.cas_messages.specs.Tables.{batch_update_blobs_request, batch_update_blobs_request_item2}
 use Rattle.cas_messages.specs.Table.{Value, ◌&◌}
-use Rattle.casd_server.specs.Batch.{Update, item_of, max_batch, is_built, rpc_of, put_item, put_items, update, update_by, update_in, update_view, batch_update}
-
--- ---- the numbers of the next owner and of the next lease stay
-
-abbrev pub numbers : State → ℕ × ℕ
-numbers s = (s.next_owner, s.next_lease)
-
-pub kept_if : {A : Type 0} (t : Bool) (x y : A × State) (n : ℕ × ℕ) → numbers x.1 ≡ n → numbers y.1 ≡ n → numbers (cond t x y).1 ≡ n
-kept_if true x y n p q = p
-kept_if false x y n p q = q
-
-one_if : (t : Bool) (x y : State) (n : ℕ × ℕ) → numbers x ≡ n → numbers y ≡ n → numbers (cond t x y) ≡ n
-one_if true x y n p q = p
-one_if false x y n p q = q
-
-with_room-numbers : (s : State) (size : ℕ) → numbers (with_room s size) ≡ numbers s
-with_room-numbers s size = one_if _ _ _ _ refl refl
-
-put_over-numbers : (s : State) (d : HashAndSize) (edges : Option (List Edge)) (row : Option Row) → numbers (put_over s d edges row).1 ≡ numbers s
-put_over-numbers s d edges (Some row) = refl
-put_over-numbers s d edges None = kept_if {A = Reply} _ _ _ _ refl (with_room-numbers s d.size)
-
-put-numbers : (s : State) (d : HashAndSize) (edges : Option (List Edge)) → numbers (put s d edges).1 ≡ numbers s
-unfolding put
-put-numbers s d edges = kept_if {A = Reply} _ _ _ _ refl (put_over-numbers s d edges (row_of d s.rows))
-
-step-put-numbers : (s : State) (owner : ℕ) (d : HashAndSize) (edges : Option (List Edge)) → numbers (step s owner (events.Put d edges)).1 ≡ numbers s
-unfolding step served
-step-put-numbers s owner d edges = kept_if {A = Reply} _ _ _ _ (put-numbers s d edges) refl
-
-pub put_item-numbers : (s : State) (owner : ℕ) (item : UpdateItem) → numbers (put_item s owner item).1 ≡ numbers s
-unfolding put_item
-put_item-numbers s owner item = kept_if {A = Status} _ _ _ _ (step-put-numbers s owner item.digest (links item.bytes)) refl
-
-pub put_items-numbers : (s : State) (owner : ℕ) (items : List UpdateItem) → numbers (put_items s owner items).1 ≡ numbers s
-unfolding put_items
-put_items-numbers s owner [] = refl
-put_items-numbers s owner (item ∷ items) = put_items-numbers (put_item s owner item).1 owner items ∙ put_item-numbers s owner item
-
-update-numbers : (s : State) (owner : ℕ) (read : Result Update MessageError) → numbers (update s owner read).1 ≡ numbers s
-unfolding update
-update-numbers s owner (Err e) = refl
-update-numbers s owner (Ok r) = kept_if {A = Result (List ℕ) Status} _ _ _ _ (put_items-numbers s owner r.items) refl
-
--- the call keeps both numbers, whatever it answers
-pub batch_update-numbers : (s : State) (owner : ℕ) (messages : List (List ℕ)) → numbers (batch_update s owner messages).1 ≡ numbers s
-unfolding batch_update
-batch_update-numbers s owner [] = refl
-batch_update-numbers s owner (message ∷ []) = update-numbers s owner (update_in message)
-batch_update-numbers s owner (message ∷ next ∷ more) = refl
+use Rattle.casd_server.specs.Batch.{Update, item_of, max_batch, is_built, rpc_of, put_item, put_items, update_by, update_in, update_view}
 
 -- ---- items that are put one after the other, as a loop does
 

@@ -49,8 +49,6 @@ Going-start left written = record {
   read = refl;
   bounded = omega arith;
   lines = omega arith;
-  owners = omega arith;
-  leases = omega arith;
 }
 
 -- more was read
@@ -65,8 +63,6 @@ Going-reads left a b written w p p' s k g r few = record {
   read = omega (arith, length-append g.input r.more, g.read, r.read);
   bounded = few;
   lines = omega (arith, length-append p.bytes r.more, ap (λ (l : List ℕ). length l) r.bytes, g.lines, r.read);
-  owners = g.owners;
-  leases = g.leases;
 }
 
 -- the outcome where a line and its newline stand at the front
@@ -80,9 +76,9 @@ outcome-line s k line rest more bytes r is clear result =
 
 -- a line was answered
 pub Going-line : (left l written w w' : Option (List ℕ)) (p : Pending) (s s' : Seated) (k : ℕ) (line rest text : List ℕ) → Going left l written w p s k
-    → p.bytes ≡ line ++ (10 ∷ rest) → NoByte 10 line → line_result s k (record_of line) ≡ (text, Some s') → Adds w w' text → s'.core.next_owner ≤ k + 1 → s'.core.next_lease ≤ k + 1
+    → p.bytes ≡ line ++ (10 ∷ rest) → NoByte 10 line → line_result s k (record_of line) ≡ (text, Some s') → Adds w w' text
     → Going left l written w' (record { bytes = rest; read = p.read }) s' (k + 1)
-Going-line left l written w w' p s s' k line rest text g is clear result added owners leases = record {
+Going-line left l written w w' p s s' k line rest text g is clear result added = record {
   input = g.input;
   output = g.output ++ text;
   takes = g.takes;
@@ -92,8 +88,6 @@ Going-line left l written w w' p s s' k line rest text g is clear result added o
   read = g.read;
   bounded = g.bounded;
   lines = omega (arith, ap (λ (b : List ℕ). length b) is, length-append line (10 ∷ rest), g.lines);
-  owners = owners;
-  leases = leases;
 }
 
 -- the outcome of all that was read

@@ -109,16 +109,16 @@ line_at bytes left len b =
 
 -- a line at the front was answered
 pub step-line : (left l written w w' : Option (List ℕ)) (p : Pending) (s s' : Seated) (k len : ℕ) (going : Bool) → Going left l written w p s k → Begins (found.Line len) p.bytes l
-    → Adds w w' (line_result s k (record_of (take len p.bytes))).0 → (line_result s k (record_of (take len p.bytes))).1 ≡ cond going (Some s') None → s'.core.next_owner ≤ k + 1 → s'.core.next_lease ≤ k + 1 → going ≡ true
+    → Adds w w' (line_result s k (record_of (take len p.bytes))).0 → (line_result s k (record_of (take len p.bytes))).1 ≡ cond going (Some s') None → going ≡ true
     → Going left l written w' (record p { bytes = drop (len + 1) p.bytes }) s' (k + 1)
-step-line left l written w w' p s s' k len going g b added kept owners leases told =
+step-line left l written w w' p s s' k len going g b added kept told =
     let at = line_at p.bytes l len b in
     let text = (line_result s k (record_of (take len p.bytes))).0 in
     let kept-is : (line_result s k (record_of (take len p.bytes))).1 ≡ Some s' = kept ∙ ap (λ (x : Bool). cond x (Some s') None) told in
     let result : line_result s k (record_of at.line) ≡ (text, Some s') =
     ap (λ (xs : List ℕ). line_result s k (record_of xs)) (sym at.front) ∙ ap (λ (o : Option Seated). (text, o)) kept-is in
     subst (λ (xs : List ℕ). Going left l written w' (record { bytes = xs; read = p.read }) s' (k + 1)) (sym at.behind)
-    (Going-line left l written w w' p s s' k at.line at.rest text g at.whole at.clear result added owners leases)
+    (Going-line left l written w w' p s s' k at.line at.rest text g at.whole at.clear result added)
 
 -- a line at the front was malformed
 pub step-malformed : (left l written w w' : Option (List ℕ)) (p : Pending) (s s' : Seated) (k len : ℕ) (going : Bool) → Going left l written w p s k → Begins (found.Line len) p.bytes l

@@ -1,5 +1,5 @@
 -- The text of a status: which of its bytes are escaped.
-use Rattle.std.proofs.Common.{◌≡◌, ◌≢◌, ℕ, ◌<◌, Bool, true, false, cond, not, ◌&&◌, ◌||◌, ◌==◌, nat_lt, List, [], ◌∷◌, ◌++◌, length, refl, ap, ◌∙◌, arith}
+use Rattle.std.proofs.Common.{◌≡◌, ◌≢◌, ℕ, ◌<◌, Bool, true, false, cond, not, ◌&&◌, ◌||◌, ◌==◌, nat_lt, List, [], ◌∷◌, ◌++◌, length, append_assoc, refl, ap, ◌∙◌, arith}
 use Rattle.std.specs.Prelude.{nat_le}
 use Rattle.std.specs.List.{flat_map}
 use Rattle.std.proofs.lemmas.Bool.{agree_below, agree_below_at}
@@ -52,3 +52,9 @@ text_escaped set is (b ∷ bs) = ap (λ (front : List ℕ). front ++ percent_enc
 pub text_without_dash : (set : AsciiSet) → IsEscapeSet set → (text : List ℕ) → 0 < length text → percent_encode set text ≡ text_or_dash text
 text_without_dash set is [] some = absurd (omega arith)
 text_without_dash set is (b ∷ bs) some = text_escaped set is (b ∷ bs)
+
+-- ---- a text that is written in two parts
+
+-- what follows a text is what follows its end, behind a space
+pub text_goes_on : (word front whole last : List ℕ) → front ++ last ≡ whole → (word ++ (32 ∷ front)) ++ last ≡ word ++ (32 ∷ whole)
+text_goes_on word front whole last e = append_assoc word (32 ∷ front) last ∙ ap (λ (text : List ℕ). word ++ (32 ∷ text)) e

@@ -1,5 +1,5 @@
 -- What a record answers, and its line.
-use Rattle.std.specs.Prelude.{◌==◌, ◌&&◌, not, nat_le, codes, ℕ, zero, suc, Bool, true, false, List, [], ◌∷◌, ◌++◌, slice_get, slice_set, replicate, Option, Some, None, Result, Ok, Err, if◌then◌else◌}
+use Rattle.std.specs.Prelude.{◌==◌, ◌&&◌, not, nat_le, codes, ℕ, zero, suc, List, [], ◌∷◌, ◌++◌, slice_get, slice_set, replicate, Option, Some, None, Result, Ok, Err, if◌then◌else◌}
 use Rattle.std.specs.List.{flat_map}
 use Rattle.std.specs.Fmt.{decimal}
 use Rattle.percent_encoding.specs.Percent.{percent_encode_byte}
@@ -7,7 +7,12 @@ use Rattle.casd_base.specs.Code.{number_of}
 use Rattle.casd_base.specs.declared.status.Status.{Status}
 use Rattle.store_core.specs.State.{State, new_state}
 use Rattle.store_core.specs.Step.{step}
+use Rattle.store_core.specs.declared.event.Event.{Event}
 use Rattle.store_core.specs.declared.event.Event.TheVariants as events
+use Rattle.store_core.specs.declared.event.Reply.{Reply}
+use Rattle.store_core.specs.declared.event.Reply.TheVariants as replies
+use Rattle.casd_server.specs.declared.answer.Answer.{Answer}
+use Rattle.casd_server.specs.declared.answer.Answer.TheVariants as answers
 use Rattle.casd_server.specs.declared.word.Word.{Word}
 use Rattle.casd_server.specs.declared.word.Word.TheVariants as words
 use Rattle.casd_server.specs.Word.{name_of}
@@ -51,22 +56,37 @@ unfoldable pub closed_below : ℕ → Seated → Seated
 closed_below zero s = s
 closed_below (suc seat) s = closed_with (closed_below seat s) seat (owner_at (closed_below seat s) seat)
 
--- whether the word is the one that is built
-abbrev pub is_batch : Word → Bool
-is_batch words.BatchUpdateBlobs = true
-is_batch _ = false
-
 -- a call of the store, with the seats as they are
-abbrev pub with_core : Seated → Result (List ℕ) Status × State → Result (List ℕ) Status × Seated
-with_core s called = (called.0, record s { core = called.1 })
+abbrev pub with_core : Seated → Result (List ℕ) Status × State → Answer × Seated
+with_core s called = (answers.Call called.0, record s { core = called.1 })
 
--- A record of the built word runs its call for the seat's owner. A record of any other word is refused, and makes no
--- entry but its seat's Open; seat 0 has no owner.
-unfoldable pub run_record : Seated → Asked → Result (List ℕ) Status × Seated
-run_record s r =
-    if is_batch r.word then with_core (opened s r.seat).1 (batch_update (opened s r.seat).1.core (opened s r.seat).0 r.messages)
-    else if r.seat == 0 then (Err not_built, s)
-    else (Err not_built, (opened s r.seat).1)
+-- The answer for the reply to a pass, to a question for the numbers, or to a close. Other replies are none to these.
+unfoldable pub answer_of : Reply → Answer
+answer_of (replies.Passed removed used) = answers.Passed removed used
+answer_of (replies.Used usage) = answers.Used usage
+answer_of replies.Closed = answers.Closed
+answer_of _ = answers.Call (Err not_built)
+
+-- an event of the store, with the seats as they are
+abbrev pub by_event : Seated → ℕ → Event → Answer × Seated
+by_event s owner event = (answer_of (step s.core owner event).0, record s { core = (step s.core owner event).1 })
+
+-- a seat's owner goes
+abbrev pub by_close : Seated → ℕ → ℕ → Answer × Seated
+by_close s seat owner = (answer_of (step s.core owner events.Close).0, closed_with s seat (Some owner))
+
+-- what a seat's owner asks for
+unfoldable pub run_by : Word → Seated → ℕ → ℕ → List (List ℕ) → Answer × Seated
+run_by words.BatchUpdateBlobs s seat owner messages = with_core s (batch_update s.core owner messages)
+run_by words.Pass s seat owner messages = by_event s owner events.Pass
+run_by words.Usage s seat owner messages = by_event s owner events.Usage
+run_by words.Close s seat owner messages = by_close s seat owner
+run_by _ s seat owner messages = (answers.Call (Err not_built), s)
+
+-- A record runs what its word says for the seat's owner. One of a word that isn't built is refused, and makes no entry but
+-- its seat's Open.
+unfoldable pub run_record : Seated → Asked → Answer × Seated
+run_record s r = run_by r.word (opened s r.seat).1 r.seat (opened s r.seat).0 r.messages
 
 -- a byte of a status text: printable ASCII but `%` as it is, any other as `%` and two upper-case hex digits
 abbrev pub escaped_byte : ℕ → List ℕ
@@ -83,9 +103,26 @@ answer_line r code message text =
     decimal r.seat ++ (32 ∷ name_of r.word ++ (32 ∷ decimal code ++ (32 ∷ message ++ (32 ∷ text ++ 10 ∷ []))))
 
 -- the line of what a call answered
-abbrev pub line_for : Asked → Result (List ℕ) Status → List ℕ
-line_for r (Ok message) = answer_line r 0 (message_text message) (codes "-")
-line_for r (Err status) = answer_line r (number_of status.code) (codes "-") (text_or_dash status.text)
+abbrev pub call_line : Asked → Result (List ℕ) Status → List ℕ
+call_line r (Ok message) = answer_line r 0 (message_text message) (codes "-")
+call_line r (Err status) = answer_line r (number_of status.code) (codes "-") (text_or_dash status.text)
+
+-- numbers in decimal, each behind a space, and a newline
+abbrev pub numbers_text : List ℕ → List ℕ
+numbers_text [] = 10 ∷ []
+numbers_text (n ∷ ns) = 32 ∷ decimal n ++ numbers_text ns
+
+-- a line of numbers: seat, word and these
+abbrev pub numbers_line : Asked → List ℕ → List ℕ
+numbers_line r ns = decimal r.seat ++ (32 ∷ name_of r.word ++ numbers_text ns)
+
+-- The line of an answer: of a call; of a pass, how many rows it removed and how many bytes are used then; of the store's
+-- numbers; and of a close.
+abbrev pub line_for : Asked → Answer → List ℕ
+line_for r (answers.Call called) = call_line r called
+line_for r (answers.Passed removed used) = numbers_line r (removed ∷ used ∷ [])
+line_for r (answers.Used usage) = numbers_line r (usage.used ∷ usage.guarded ∷ usage.rows ∷ usage.low ∷ usage.high ∷ [])
+line_for r answers.Closed = numbers_line r []
 
 -- the answer to a record: its line, and what is kept after it
 unfoldable pub answer : Seated → Asked → List ℕ × Seated

@@ -21,7 +21,5 @@ pub record Going (left left' written written' : Option (List ℕ)) (pending : Pe
   pub rest : (more : List ℕ) → outcome_of (input ++ more) ≡ behind output (outcome kept number (lines_of (pending.bytes ++ more)))
   pub read : length input ≡ pending.read
   pub bounded : pending.read ≤ 2 ^ 50
-  -- lines, owners and leases are fewer than the bytes that were read
+  -- lines are fewer than the bytes that were read
   pub lines : number + length pending.bytes ≤ pending.read + 1
-  pub owners : kept.core.next_owner ≤ number
-  pub leases : kept.core.next_lease ≤ number

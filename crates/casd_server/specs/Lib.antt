@@ -3,6 +3,7 @@ pub mod Cut
 pub mod Record
 pub mod Batch
 pub mod Answer
+pub mod Sitting
 pub mod Run
 pub mod Pending
 pub mod Input

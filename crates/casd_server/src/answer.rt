@@ -1,14 +1,30 @@
 //! The line of an answer.
 
 ghost use Rattle.std.specs.Prelude.{◌≡◌, IfOk, string_bytes};
-ghost use Rattle.casd_server.specs.Answer.{answer_line as line_text, line_for, text_or_dash, escaped_byte};
+ghost use Rattle.casd_server.specs.Answer.{answer_line as line_text, call_line, line_for, numbers_line, text_or_dash, escaped_byte};
+ghost use Rattle.casd_server.specs.Batch.{not_built};
+ghost use Rattle.casd_server.specs.declared.answer.Answer.TheVariants as answers;
 ghost use Rattle.casd_server.specs.Record.{record_view, message_text};
 
-use crate::batch::Answer;
 use crate::record_line::Record;
+use casd_base::{Code, Status};
 use percent_encoding::{CONTROLS, percent_encode};
-use proto_wire::OutOfMemory;
+use proto_wire::{Bytes, OutOfMemory, Text};
 use std::alloc::Global;
+use store_core::Usage;
+
+/// What a record is answered.
+#[derive(Debug, Drop)]
+pub enum Answer {
+    /// Of a call: the bytes of its response, or why there is none.
+    Call(Result<Bytes, Status>),
+    /// Of a pass: how many rows it removed, and how many bytes are used then.
+    Passed { removed: u64, used: u64 },
+    /// The numbers of the store.
+    Used(Usage),
+    /// The seat's owner went.
+    Closed,
+}
 
 fn message_in_hex(alloc: Global, message: &[u8]) -> Result<String, OutOfMemory>
     ensures { IfOk result (λ s. string_bytes s ≡ message_text message.now) }
@@ -45,15 +61,25 @@ fn joined_line(
     Ok(format!(in alloc; "{seat} {word} {code} {message} {text}\n")?)
 }
 
+/// The status of what isn't built.
+pub(crate) fn not_built() -> Status
+    ensures { result ≡ not_built }
+{
+    Status {
+        code: Code::Unimplemented,
+        text: Text::short("not built"),
+    }
+}
+
 /// The line of what a call answered, with its newline.
-pub(crate) fn answer_line(
+fn call_line(
     alloc: Global,
     asked: &Record,
-    answered: &Answer,
+    called: &Result<Bytes, Status>,
 ) -> Result<String, OutOfMemory>
-    ensures { IfOk result (λ s. string_bytes s ≡ line_for (record_view asked.now) answered.now) }
+    ensures { IfOk result (λ s. string_bytes s ≡ call_line (record_view asked.now) called.now) }
 {
-    match answered {
+    match called {
         Ok(message) => {
             let message = message_in_hex(alloc, message.as_slice())?;
             joined_line(alloc, asked, 0, message.as_str(), "-")
@@ -62,5 +88,41 @@ pub(crate) fn answer_line(
             let text = escaped_text(alloc, status.text.as_str())?;
             joined_line(alloc, asked, status.code.number(), "-", text.as_str())
         }
+    }
+}
+
+/// The line of the store's numbers, with its newline.
+fn usage_line(alloc: Global, asked: &Record, usage: &Usage) -> Result<String, OutOfMemory>
+    ensures { IfOk result (λ s. string_bytes s ≡ line_for (record_view asked.now) (answers.Used usage.now)) }
+{
+    let seat = asked.seat;
+    let word = asked.word.name();
+    let Usage {
+        used,
+        guarded,
+        rows,
+        low,
+        high,
+    } = *usage;
+    Ok(format!(in alloc; "{seat} {word} {used} {guarded} {rows} {low} {high}\n")?)
+}
+
+/// The line of an answer, with its newline.
+pub(crate) fn answer_line(
+    alloc: Global,
+    asked: &Record,
+    answer: &Answer,
+) -> Result<String, OutOfMemory>
+    ensures { IfOk result (λ s. string_bytes s ≡ line_for (record_view asked.now) answer.now) }
+{
+    let seat = asked.seat;
+    let word = asked.word.name();
+    match answer {
+        Answer::Call(called) => call_line(alloc, asked, called),
+        Answer::Passed { removed, used } => {
+            Ok(format!(in alloc; "{seat} {word} {removed} {used}\n")?)
+        }
+        Answer::Used(usage) => usage_line(alloc, asked, usage),
+        Answer::Closed => Ok(format!(in alloc; "{seat} {word}\n")?),
     }
 }

@@ -1,26 +1,34 @@
 //! The call BatchUpdateBlobs (Remote Execution API v2).
 
-ghost use Rattle.std.specs.Prelude.{◌≡◌, ◌-◌, ◌<◌, ◌≤◌, ◌^◌, IfOk, length, Result, Ok};
+ghost use Rattle.std.specs.Prelude.{◌≡◌, ◌<◌, ◌≤◌, ◌^◌, true, false, ℕ, Some, IfOk, length, Result, Ok};
+ghost use Rattle.blob_store.specs.Benched.{store_of, seat_of, view_of};
+ghost use Rattle.blob_store.specs.View.{IsSound};
+ghost use Rattle.store_core.specs.Step.{step};
+ghost use Rattle.store_core.specs.declared.event.Event.TheVariants as events;
+ghost use Rattle.blob_store.specs.Bodies.{IsSealed};
+ghost use Rattle.blob_store.specs.Calls.{put_reply};
+ghost use Rattle.casd_server.specs.Sitting.{StaysSeated};
 ghost use Rattle.std.specs.List.{AllByRecursion};
 ghost use Rattle.cas_messages.specs.Fault.{Gives};
 ghost use Rattle.casd_server.specs.Batch.{mismatch, put_status, put_item, put_items, is_built, update, update_view, update_in, batch_update, rpc_of};
 
+use crate::answer::not_built;
+use crate::sitting::{has_turn, look};
+use blob_store::{Bench, Checked, Door, Filling, PutReply, Shelf};
 use cas_messages::{
     BatchUpdateBlobsRequest, BatchUpdateBlobsRequestItem2, BatchUpdateBlobsResponse,
     BatchUpdateBlobsResponseItem1, Message, MessageError, RpcStatus,
 };
 use casd_base::{Code, Status};
 use digest_types::Digest;
-use directory_canon::links_of;
 use proto_wire::{Bytes, OutOfMemory, Text};
 use std::alloc::Global;
-use store_core::{Core, Event, Reply};
 
 /// How many bytes of data a request has at most.
 const MAX_BATCH: u64 = 3_670_016;
 
 /// What a call answers: the bytes of its response, or why there is none.
-pub(crate) type Answer = Result<Bytes, Status>;
+pub(crate) type Called = Result<Bytes, Status>;
 
 fn invalid(text: &str) -> Status
     requires { length text.now ≤ 32 }
@@ -49,15 +57,15 @@ fn mismatch_of(alloc: Global, want: &Digest, got: &Digest) -> Result<Status, Out
 }
 
 #[tactic(auto, unfolding(crate::specs::Batch::put_status))]
-fn status_of(alloc: Global, reply: &Reply) -> Result<Status, OutOfMemory>
-    ensures { IfOk result (λ s. s ≡ put_status reply.now) }
+fn status_of(alloc: Global, answer: &PutReply) -> Result<Status, OutOfMemory>
+    ensures { IfOk result (λ s. s ≡ put_status (put_reply answer.now)) }
 {
-    match reply {
-        Reply::Stored { .. } | Reply::Present | Reply::Repaired => Ok(Status {
+    match answer {
+        PutReply::Stored { .. } | PutReply::Present | PutReply::Repaired => Ok(Status {
             code: Code::Ok,
             text: Text::empty(),
         }),
-        Reply::NoSpace {
+        PutReply::NoSpace {
             guarded,
             size,
             high,
@@ -68,32 +76,98 @@ fn status_of(alloc: Global, reply: &Reply) -> Result<Status, OutOfMemory>
                 text: Text::from_string(text),
             })
         }
-        _ => Ok(Status {
-            code: Code::Internal,
-            text: Text::empty(),
-        }),
     }
 }
 
-#[tactic(auto, unfolding(crate::specs::Batch::put_item))]
-fn put_one(
+/// The bytes as a body on the shelf, whose calls don't fail.
+fn checked<K: Shelf>(alloc: Global, shelf: &mut K, bytes: &[u8]) -> Result<Checked<K>, OutOfMemory>
+    requires small { length bytes.now ≤ 2 ^ 60 }
+    requires sure { (K.shelved shelf.old).may_fail ≡ false }
+    ensures sealed { IfOk result (IsSealed bytes.now) }
+    ensures sure { (K.shelved shelf.new).may_fail ≡ false }
+{
+    let Ok(mut filling) = Filling::new(alloc, shelf) else {
+        return Err(OutOfMemory);
+    };
+    if filling.add(shelf, bytes).is_err() {
+        filling.give_up(shelf);
+        return Err(OutOfMemory);
+    }
+    match filling.finish(shelf) {
+        Ok(blob) => Ok(blob),
+        Err(_) => Err(OutOfMemory),
+    }
+}
+
+/// One put of the chosen seat's owner.
+#[tactic(auto, using(crate::proofs::PutLaws::put_steps, crate::proofs::PutLaws::put_stays, crate::proofs::PutLaws::put_counts, crate::proofs::PutLaws::waits_stays, crate::proofs::PutLaws::waits_counts))]
+fn put_blob<K: Shelf>(
+    bench: &mut Bench<K>,
+    shelf: &mut K,
+    blob: Checked<K>,
+) -> Result<PutReply, OutOfMemory>
+    requires is_in { (seat_of bench.old).entered ≡ true }
+    requires turn { length bench.old.seen < 2 ^ 62 }
+    requires sure { (K.shelved shelf.old).may_fail ≡ false }
+    ensures ok { IfOk result (λ r. (owner : ℕ) → (seat_of bench.old).owner ≡ Some owner → (put_reply r, store_of bench.new) ≡ step (store_of bench.old) owner (events.Put blob.digest blob.edges)) }
+    ensures seats { StaysSeated bench.old bench.new }
+    ensures few { length bench.new.seen ≤ 2 ^ 62 }
+    ensures sure { (K.shelved shelf.new).may_fail ≡ false }
+{
+    let answer = bench.put(shelf, blob)?;
+    look(bench);
+    Ok(answer)
+}
+
+/// Puts a blob whose bytes have the declared digest.
+fn put_same<K: Shelf>(
     alloc: Global,
-    core: &mut Core,
-    owner: u64,
+    bench: &mut Bench<K>,
+    shelf: &mut K,
+    blob: Checked<K>,
     item: &BatchUpdateBlobsRequestItem2,
 ) -> Result<Status, OutOfMemory>
-    requires small { length item.now.bytes ≤ 2 ^ 60 }
-    requires count { core.old.next_owner < 2 ^ 64 - 1 }
-    requires leases { core.old.next_lease < 2 ^ 64 - 1 }
-    ensures { IfOk result (λ s. (s, core.new) ≡ put_item core.old owner item.now) }
+    requires sealed { IsSealed item.now.bytes blob }
+    requires same { blob.digest ≡ item.now.digest }
+    requires is_in { (seat_of bench.old).entered ≡ true }
+    requires few { length bench.old.seen ≤ 2 ^ 62 }
+    requires sure { (K.shelved shelf.old).may_fail ≡ false }
+    ensures ok { IfOk result (λ s. (owner : ℕ) → (seat_of bench.old).owner ≡ Some owner → (s, store_of bench.new) ≡ put_item (store_of bench.old) owner item.now) }
+    ensures seats { StaysSeated bench.old bench.new }
+    ensures few { length bench.new.seen ≤ 2 ^ 62 }
+    ensures sure { (K.shelved shelf.new).may_fail ≡ false }
 {
-    let got = Digest::of(item.bytes.as_slice());
+    if !has_turn(bench) {
+        blob.give_up(shelf);
+        return Err(OutOfMemory);
+    }
+    let answer = put_blob(bench, shelf, blob)?;
+    status_of(alloc, &answer)
+}
+
+/// Puts the bytes of an item where they have the declared digest.
+fn put_one<K: Shelf>(
+    alloc: Global,
+    bench: &mut Bench<K>,
+    shelf: &mut K,
+    item: &BatchUpdateBlobsRequestItem2,
+) -> Result<Status, OutOfMemory>
+    requires is_in { (seat_of bench.old).entered ≡ true }
+    requires few { length bench.old.seen ≤ 2 ^ 62 }
+    requires small { length item.now.bytes ≤ 2 ^ 60 }
+    requires sure { (K.shelved shelf.old).may_fail ≡ false }
+    ensures ok { IfOk result (λ s. (owner : ℕ) → (seat_of bench.old).owner ≡ Some owner → (s, store_of bench.new) ≡ put_item (store_of bench.old) owner item.now) }
+    ensures seats { StaysSeated bench.old bench.new }
+    ensures few { length bench.new.seen ≤ 2 ^ 62 }
+    ensures sure { (K.shelved shelf.new).may_fail ≡ false }
+{
+    let blob = checked(alloc, shelf, item.bytes.as_slice())?;
+    let got = blob.digest();
     if got != item.digest {
+        blob.give_up(shelf);
         return mismatch_of(alloc, &item.digest, &got);
     }
-    let edges = links_of(alloc, item.bytes.as_slice())?;
-    let reply = core.step(owner, &Event::Put { digest: got, edges })?;
-    status_of(alloc, &reply)
+    put_same(alloc, bench, shelf, blob, item)
 }
 
 // A status as it stands in a message.
@@ -107,20 +181,24 @@ fn rpc_status(status: Status) -> RpcStatus
     }
 }
 
-fn put_all(
+fn put_all<K: Shelf>(
     alloc: Global,
-    core: &mut Core,
-    owner: u64,
+    bench: &mut Bench<K>,
+    shelf: &mut K,
     items: &[BatchUpdateBlobsRequestItem2],
 ) -> Result<Vec<BatchUpdateBlobsResponseItem1>, OutOfMemory>
     requires small { AllByRecursion (λ item. length item.bytes ≤ 2 ^ 60) items.now }
-    requires count { core.old.next_owner < 2 ^ 64 - 1 }
-    requires leases { core.old.next_lease < 2 ^ 64 - 1 }
-    ensures { IfOk result (λ v. (v.items, core.new) ≡ put_items core.old owner items.now) }
+    requires is_in { (seat_of bench.old).entered ≡ true }
+    requires few { length bench.old.seen ≤ 2 ^ 62 }
+    requires sure { (K.shelved shelf.old).may_fail ≡ false }
+    ensures ok { IfOk result (λ v. (owner : ℕ) → (seat_of bench.old).owner ≡ Some owner → (v.items, store_of bench.new) ≡ put_items (store_of bench.old) owner items.now) }
+    ensures seats { StaysSeated bench.old bench.new }
+    ensures few { length bench.new.seen ≤ 2 ^ 62 }
+    ensures sure { (K.shelved shelf.new).may_fail ≡ false }
 {
     let mut answers = Vec::new(alloc);
     'items: for item in items {
-        let status = put_one(alloc, core, owner, item)?;
+        let status = put_one(alloc, bench, shelf, item)?;
         answers.push(BatchUpdateBlobsResponseItem1 {
             digest: item.digest,
             status: rpc_status(status),
@@ -147,23 +225,24 @@ fn is_built_request(request: &BatchUpdateBlobsRequest) -> bool
 }
 
 #[tactic(auto, unfolding(crate::specs::Batch::update))]
-fn update_with(
+fn update_with<K: Shelf>(
     alloc: Global,
-    core: &mut Core,
-    owner: u64,
+    bench: &mut Bench<K>,
+    shelf: &mut K,
     request: &BatchUpdateBlobsRequest,
-) -> Result<Answer, OutOfMemory>
-    requires count { core.old.next_owner < 2 ^ 64 - 1 }
-    requires leases { core.old.next_lease < 2 ^ 64 - 1 }
-    ensures { IfOk result (λ a. (a, core.new) ≡ update core.old owner (Ok (update_view request.now))) }
+) -> Result<Called, OutOfMemory>
+    requires is_in { (seat_of bench.old).entered ≡ true }
+    requires few { length bench.old.seen ≤ 2 ^ 62 }
+    requires sure { (K.shelved shelf.old).may_fail ≡ false }
+    ensures ok { IfOk result (λ a. (owner : ℕ) → (seat_of bench.old).owner ≡ Some owner → (a, store_of bench.new) ≡ update (store_of bench.old) owner (Ok (update_view request.now))) }
+    ensures seats { StaysSeated bench.old bench.new }
+    ensures few { length bench.new.seen ≤ 2 ^ 62 }
+    ensures sure { (K.shelved shelf.new).may_fail ≡ false }
 {
     if !is_built_request(request) {
-        return Ok(Err(Status {
-            code: Code::Unimplemented,
-            text: Text::short("not built"),
-        }));
+        return Ok(Err(not_built()));
     }
-    let responses = put_all(alloc, core, owner, &request.requests)?;
+    let responses = put_all(alloc, bench, shelf, &request.requests)?;
     let response = BatchUpdateBlobsResponse { responses };
     Ok(Ok(response.write(alloc)?))
 }
@@ -179,15 +258,19 @@ fn read(alloc: Global, bytes: &[u8]) -> Result<BatchUpdateBlobsRequest, MessageE
 /// One call with its messages, of which it takes one: each blob of the request is put if its bytes have its digest.
 /// After want of memory some of the blobs may have been put.
 #[tactic(auto, unfolding(crate::specs::Batch::batch_update, crate::specs::Batch::update))]
-pub(crate) fn call(
+pub(crate) fn call<K: Shelf>(
     alloc: Global,
-    core: &mut Core,
-    owner: u64,
+    bench: &mut Bench<K>,
+    shelf: &mut K,
     messages: &[Bytes],
-) -> Result<Answer, OutOfMemory>
-    requires count { core.old.next_owner < 2 ^ 64 - 1 }
-    requires leases { core.old.next_lease < 2 ^ 64 - 1 }
-    ensures { IfOk result (λ a. (a, core.new) ≡ batch_update core.old owner messages.now) }
+) -> Result<Called, OutOfMemory>
+    requires is_in { (seat_of bench.old).entered ≡ true }
+    requires few { length bench.old.seen ≤ 2 ^ 62 }
+    requires sure { (K.shelved shelf.old).may_fail ≡ false }
+    ensures ok { IfOk result (λ a. (owner : ℕ) → (seat_of bench.old).owner ≡ Some owner → (a, store_of bench.new) ≡ batch_update (store_of bench.old) owner messages.now) }
+    ensures seats { StaysSeated bench.old bench.new }
+    ensures few { length bench.new.seen ≤ 2 ^ 62 }
+    ensures sure { (K.shelved shelf.new).may_fail ≡ false }
 {
     let message = match messages {
         [] => return Ok(Err(invalid("no message"))),
@@ -195,7 +278,7 @@ pub(crate) fn call(
         _ => return Ok(Err(invalid("more than one message"))),
     };
     match read(alloc, message.as_slice()) {
-        Ok(request) => update_with(alloc, core, owner, &request),
+        Ok(request) => update_with(alloc, bench, shelf, &request),
         Err(MessageError::Wire { .. } | MessageError::NotUtf8 { .. }) => {
             Ok(Err(invalid("bad message")))
         }

@@ -3,6 +3,7 @@
 #![tactic(auto)]
 
 mod answer;
+mod asking;
 mod batch;
 mod cut;
 mod input;
@@ -11,9 +12,12 @@ mod parse;
 mod record_line;
 mod records;
 mod seats;
+mod sitting;
 mod word;
 
 pub use records::{End, replay};
 
+#[cfg(test)]
+mod core_tests;
 #[cfg(test)]
 mod tests;

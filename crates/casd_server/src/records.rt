@@ -124,12 +124,8 @@ fn answer<W: Sink>(
     line: &[u8],
     sink: &mut W,
 ) -> Result<bool, End>
-    requires count { seats.old.core.next_owner < 2 ^ 64 - 2 }
-    requires leases { seats.old.core.next_lease < 2 ^ 64 - 1 }
     ensures ok { IfOk result (λ going. Adds (W.written sink.old) (W.written sink.new) (line_result seats.old number (record_of line.now)).0) }
     ensures kept { IfOk result (λ going. (line_result seats.old number (record_of line.now)).1 ≡ (if going then Some seats.new else None)) }
-    ensures owners { OnOk result (seats.new.core.next_owner ≤ seats.old.core.next_owner + 1) }
-    ensures leases { OnOk result (seats.new.core.next_lease ≡ seats.old.core.next_lease) }
     ensures err { OnErr result (AddsPart (W.written sink.old) (W.written sink.new) (line_result seats.old number (record_of line.now)).0) }
     ensures end { IfErr result (λ e. (e ≡ ends.WriteFault) ⊎ (e ≡ ends.OutOfMemory)) }
     ensures later { W.write_faults sink.old ≤ W.write_faults sink.new }
@@ -160,8 +156,6 @@ fn step<S: Source, W: Sink>(
     sink: &mut W,
 ) -> Result<Option<End>, End>
     requires count { running.old.number < 2 ^ 63 }
-    requires owners { running.old.seats.core.next_owner ≤ running.old.number }
-    requires leases { running.old.seats.core.next_lease ≤ running.old.number }
     ensures ok { (left written : Option (List ℕ))
         → Going left (S.left source.old) written (W.written sink.old) running.old.input running.old.seats running.old.number
         → IfOk result (λ o. MatchOption o
@@ -197,13 +191,11 @@ fn step<S: Source, W: Sink>(
         }
         Found::End => {
             if input.pending().is_empty() {
-                seats.close_all();
                 return Ok(Some(End::Done));
             }
             if !answer(*alloc, seats, *number, input.pending(), sink)? {
                 return Ok(Some(End::Malformed));
             }
-            seats.close_all();
             Ok(Some(End::Done))
         }
         Found::TooLong => {
@@ -232,6 +224,7 @@ fn run<S: Source, W: Sink>(alloc: Global, source: &mut S, sink: &mut W) -> Resul
     };
     'lines: loop {
         if let Some(end) = step(&mut running, source, sink)? {
+            running.seats.close_all();
             return Ok(end);
         }
     }

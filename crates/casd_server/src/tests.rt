@@ -33,7 +33,7 @@ fn expect(rt: &impl Abort, shows: &str, ran: (u8, Vec<u8>), status: u8, output: 
 
 // Each case: what it shows, the line, and the line of its answer. Digests and messages were made by bench/records.py,
 // which shares nothing with the program.
-const CASES: [(&str, &str, &str); 20] = [
+const CASES: [(&str, &str, &str); 22] = [
     (
         "a blob is stored",
         "1 BatchUpdateBlobs 124b0a440a406261373831366266386630316366656134313431343064653564616532323233623030333631613339363137376139636234313066663631663230303135616410031203616263",
@@ -129,7 +129,13 @@ const CASES: [(&str, &str, &str); 20] = [
         "1 GetCapabilities .",
         "1 GetCapabilities 12 - not built",
     ),
-    ("a word of seat 0", "0 Usage -", "0 Usage 12 - not built"),
+    (
+        "the numbers of an empty store",
+        "0 Usage -",
+        "0 Usage 0 0 0 1610612736 2147483648",
+    ),
+    ("a pass over an empty store", "0 Pass -", "0 Pass 0 0"),
+    ("a seat's owner goes", "9 Close -", "9 Close"),
 ];
 
 #[test]
@@ -141,6 +147,30 @@ fn each_record_has_its_answer(rt: HostRuntime) -> Result<(), Fail> {
         expect(&rt, shows, ran, 0, output.as_bytes());
         let input = format!(in rt.alloc(); "{line}\n")?;
         let ran = run(rt.alloc(), input.as_bytes(), &[1, 1, 2, 3, 5], &[], &[])?;
+        expect(&rt, shows, ran, 0, output.as_bytes());
+    }
+    Ok(())
+}
+
+#[test]
+fn a_blob_is_stored_once_and_a_refused_one_is_not(rt: HostRuntime) -> Result<(), Fail> {
+    let alloc = rt.alloc();
+    let [stored, refused, ..] = CASES;
+    // the upload, how often it is asked for, and the numbers after it
+    let cases = [
+        (stored, 2, "0 Usage 3 0 1 1610612736 2147483648"),
+        (refused, 1, "0 Usage 0 0 0 1610612736 2147483648"),
+    ];
+    for ((shows, line, answer), times, numbers) in cases {
+        let mut input = String::new(alloc);
+        let mut output = String::new(alloc);
+        for _ in 0..times {
+            input.push_str(format!(in alloc; "{line}\n")?.as_str())?;
+            output.push_str(format!(in alloc; "{answer}\n")?.as_str())?;
+        }
+        input.push_str("0 Usage -\n")?;
+        output.push_str(format!(in alloc; "{numbers}\n")?.as_str())?;
+        let ran = run(alloc, input.as_bytes(), &[], &[], &[])?;
         expect(&rt, shows, ran, 0, output.as_bytes());
     }
     Ok(())
@@ -173,7 +203,7 @@ fn a_run_ends_where_it_has_to(rt: HostRuntime) -> Result<(), Fail> {
             &[],
             &[],
             3,
-            "9 Close 12 - not built\nmalformed line 2\n",
+            "9 Close\nmalformed line 2\n",
         ),
         (
             "lines share one store and keep their seats",
@@ -181,7 +211,7 @@ fn a_run_ends_where_it_has_to(rt: HostRuntime) -> Result<(), Fail> {
             &[],
             &[],
             0,
-            "2 EndStage 12 - not built\n2 Close 12 - not built\n0 Pass 12 - not built\n",
+            "2 EndStage 12 - not built\n2 Close\n0 Pass 0 0\n",
         ),
         (
             "the first read fails",

@@ -1,4 +1,6 @@
-use Rattle.std.proofs.Common.{◌≤◌, sym, subst, arith}
+use Rattle.std.proofs.Common.{◌≡◌, ◌≤◌, ◌⊎◌, Option, IfSome, sym, subst, arith}
+use Rattle.casd_server.specs.declared.records.End.{End}
+use Rattle.casd_server.specs.declared.records.End.TheVariants as ends
 use Rattle.std.proofs.lemmas.Result.{err_from_is_err_and}
 use Rattle.casd_server.specs.Going.{Going}
 use Rattle.casd_server.specs.Pending.{Pending}
@@ -26,3 +28,16 @@ returns-in_err-new-clause-err g c =
 
 pub returns-in-Some-clause-ok : goal.returns-in-Some-clause-ok
 returns-in-Some-clause-ok g c = at_some _ _ c.in_ok-end.field-0 c.in-Some.end c.in-Some.is (c.in_ok-end.ensures.ok _ _ c.lines.invariant.going)
+
+pub returns-in_err-end-clause-err : goal.returns-in_err-end-clause-err
+returns-in_err-end-clause-err g c =
+    let p = err_from_is_err_and c.from_residual-in_err-end.result c.from_residual-in_err-end.ensures.1 in
+    rw (p.1, p.2) (c.in_err-end.ensures.err _ _ c.lines.invariant.going)
+
+pub returns-in_err-end-clause-faults : goal.returns-in_err-end-clause-faults
+returns-in_err-end-clause-faults g c =
+    let p = err_from_is_err_and c.from_residual-in_err-end.result c.from_residual-in_err-end.ensures.1 in
+    rw (p.1, p.2) c.in_err-end.ensures.faults
+
+pub returns-in-Some-clause-ends : goal.returns-in-Some-clause-ends
+returns-in-Some-clause-ends g c = subst (λ (o : Option End). IfSome o (λ e. (e ≡ ends.Done) ⊎ (e ≡ ends.Malformed))) c.in-Some.is c.in_ok-end.ensures.ends

@@ -1,4 +1,4 @@
-use Rattle.std.proofs.Common.{◌≡◌, ◌+◌, cond, List, ℕ, length, eqb, true, false, Some, None, sym, subst, ◌∙◌, arith}
+use Rattle.std.proofs.Common.{◌≡◌, ◌+◌, cond, List, ℕ, length, eqb, true, false, Some, None, sym, subst, ◌∙◌}
 use Rattle.std.proofs.lemmas.Result.{err_from_is_err_and}
 use Rattle.casd_base.specs.Streams.{Adds}
 use Rattle.casd_server.specs.Record.{record_of}
@@ -56,8 +56,7 @@ returns-else-not-branch-clause-ok g c =
     subst (λ (p : Pending). Going left (g.S.Source.left c.fill.new.source) written (g.W.Sink.written c.answer.new.sink) p c.answer.new.seats (c.args.running.now.number + 1)) (sym c.advance.ensures)
     (step-line left (g.S.Source.left c.fill.new.source) written _ _ c.fill.new.self c.args.running.now.seats c.answer.new.seats c.args.running.now.number c.in-Line.len c.in_ok-answer-in-Line.field-0 (Going-reads left _ (g.S.Source.left c.fill.new.source) written _ c.args.running.now.input c.fill.new.self c.args.running.now.seats c.args.running.now.number going c.in_ok-len.ensures.ok c.fill.ensures.bounded) (subst (λ (f : Found). Begins f c.fill.new.self.bytes (g.S.Source.left c.fill.new.source)) c.in-Line.is c.in_ok-len.ensures.begins)
     (subst (λ (line : List ℕ). Adds (g.W.Sink.written c.args.sink.now) (g.W.Sink.written c.answer.new.sink) (line_result c.args.running.now.seats c.args.running.now.number (record_of line)).0) c.front.ensures c.in_ok-answer-in-Line.ensures.ok)
-    (subst (λ (line : List ℕ). (line_result c.args.running.now.seats c.args.running.now.number (record_of line)).1 ≡ cond c.in_ok-answer-in-Line.field-0 (Some c.answer.new.seats) None) c.front.ensures c.in_ok-answer-in-Line.ensures.kept)
-    (omega (arith, c.in_ok-answer-in-Line.ensures.owners, c.requires.owners)) (omega (arith, c.in_ok-answer-in-Line.ensures.leases, c.requires.leases)) c.if-not-branch.false)
+    (subst (λ (line : List ℕ). (line_result c.args.running.now.seats c.args.running.now.number (record_of line)).1 ≡ cond c.in_ok-answer-in-Line.field-0 (Some c.answer.new.seats) None) c.front.ensures c.in_ok-answer-in-Line.ensures.kept) c.if-not-branch.false)
 
 pub returns-in_ok-write_malformed-in-TooLong-clause-ok : goal.returns-in_ok-write_malformed-in-TooLong-clause-ok
 returns-in_ok-write_malformed-in-TooLong-clause-ok g c =
