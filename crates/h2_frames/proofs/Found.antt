@@ -3,14 +3,16 @@ use Rattle.std.proofs.Common.{◌≡◌, ℕ, ◌+◌, ◌≤◌, ltb, Ok, Some,
 use Rattle.std.proofs.lemmas.Bool.{ltb-false}
 use Rattle.std.proofs.lemmas.List.{length-take, length-drop}
 use Rattle.std.proofs.Math.Seq.{take-add}
+use Rattle.proto_wire.specs.Reading.{IsBytes}
+use Rattle.proto_wire.proofs.Varints.{IsBytes-drop}
 use Rattle.h2_frames.specs.declared.frame.Frame.{Frame}
 use Rattle.h2_frames.specs.declared.layout.Header.{Header}
 use Rattle.h2_frames.specs.Layout.{header_of, offence}
-use Rattle.h2_frames.specs.Reading.{IsBytes, payload_at, frame_at}
+use Rattle.h2_frames.specs.Reading.{payload_at, frame_at}
 use Rattle.h2_frames.specs.Spelling.{header_bytes, IsSpelling}
 use Rattle.h2_frames.proofs.Headers.{Sound, sound}
 use Rattle.h2_frames.proofs.Again.{head}
-use Rattle.h2_frames.proofs.Steps.{IsBytes-drop, IsBytes-take, bind_ok, not_none, no_fault, done}
+use Rattle.h2_frames.proofs.Steps.{IsBytes-take, bind_ok, not_none, no_fault, done}
 use Rattle.h2_frames.proofs.HeaderFound.{header_found}
 use Rattle.h2_frames.proofs.Payloads.{payload_found}
 

@@ -2,9 +2,9 @@
 use Rattle.std.proofs.Common.{◌≡◌, ℕ, ◌+◌, ◌*◌, ◌/◌, ◌%◌, ◌^◌, ◌<◌, ◌≤◌, List, [], ◌∷◌, ◌++◌, length, take, refl, sym, ap, ◌∙◌, arith}
 use Rattle.std.specs.Int.{w32, from_be_bytes, to_be_bytes}
 use Rattle.std.proofs.lemmas.Nat.{be_bytes_4}
+use Rattle.proto_wire.specs.Reading.{IsBytes}
 use Rattle.h2_frames.specs.declared.layout.Header.{Header}
 use Rattle.h2_frames.specs.Layout.{header_of}
-use Rattle.h2_frames.specs.Reading.{IsBytes}
 use Rattle.h2_frames.specs.Spelling.{three_bytes, header_bytes, IsNumber31}
 use Rattle.h2_frames.proofs.Steps.{four_fit}
 

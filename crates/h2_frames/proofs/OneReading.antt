@@ -1,14 +1,15 @@
 -- The bytes of a connection have one reading.
 use Rattle.std.proofs.Common.{◌≡◌, ℕ, zero, suc, ◌+◌, ◌≤◌, ◌⊎◌, inl, inr, Bool, true, false, Result, Ok, Err, Option, Some, None, List, [], ◌∷◌, ◌++◌, length, take, drop, refl, sym, ap, subst, ◌∙◌, append_assoc, arith}
 use Rattle.std.proofs.lemmas.List.{append-nil, length-append, length-drop, take-append-drop, drop_at}
+use Rattle.proto_wire.specs.Reading.{IsBytes}
+use Rattle.proto_wire.proofs.Varints.{IsBytes-drop}
 use Rattle.h2_frames.specs.declared.fault.FrameFault.{FrameFault}
 use Rattle.h2_frames.specs.declared.frame.Frame.{Frame}
-use Rattle.h2_frames.specs.Reading.{IsBytes, frame_at}
+use Rattle.h2_frames.specs.Reading.{frame_at}
 use Rattle.h2_frames.specs.Spelling.{IsSpelling}
 use Rattle.h2_frames.specs.Stream.{Pending, preface, preface_at}
 use Rattle.h2_frames.specs.Grammar.{Frames, IsRest, IsPrefaceRest, front_of, HasFrames, IsStream, HasGiven}
 use Rattle.h2_frames.proofs.Again.{frame_again}
-use Rattle.h2_frames.proofs.Steps.{IsBytes-drop}
 use Rattle.h2_frames.proofs.Found.{frame_found, frame_long}
 use Rattle.h2_frames.proofs.Rests.{ending, rest_again, rest_found}
 use Rattle.h2_frames.proofs.Prefaces.{preface_ending, preface_whole, preface_rest_again, preface_found, preface_rest_found}

@@ -2,17 +2,18 @@
 use Rattle.std.proofs.Common.{◌≡◌, ℕ, suc, ◌+◌, ◌-◌, ◌<◌, ◌≤◌, ◌⊎◌, inl, inr, Bool, true, false, cond, eqb, ltb, Result, Ok, Err, Option, Some, None, List, [], ◌∷◌, ◌++◌, length, take, drop, refl, sym, ap, subst, ◌∙◌, arith}
 use Rattle.std.proofs.lemmas.Bool.{eqb-true, eq-eqb, ltb-true, ltb-false, lt-ltb, le-ltb}
 use Rattle.std.proofs.lemmas.List.{length-take, take-append-drop, drop_at}
+use Rattle.proto_wire.specs.Reading.{IsBytes}
+use Rattle.proto_wire.proofs.Steps.{chosen}
 use Rattle.h2_frames.specs.declared.fault.FrameFault.{FrameFault}
 use Rattle.h2_frames.specs.declared.fault.FrameFault.TheVariants as faults
 use Rattle.h2_frames.specs.declared.frame.Frame.{Frame}
 use Rattle.h2_frames.specs.declared.frame.Frame.TheVariants as frames
 use Rattle.h2_frames.specs.declared.layout.Header.{Header}
 use Rattle.h2_frames.specs.Layout.{has, pad_len, priority_len, is_bad_length, header_of, offence}
-use Rattle.h2_frames.specs.Reading.{IsBytes, ◌>>=◌, unless, unpadded, content_at, payload_at, frame_at}
+use Rattle.h2_frames.specs.Reading.{◌>>=◌, unless, unpadded, content_at, payload_at, frame_at}
 use Rattle.h2_frames.specs.Grammar.{HasHeader, IsPart, HasOffence, IsSkipped, IsOverpadded, IsRest}
 use Rattle.h2_frames.proofs.Headers.{Sound, sound, no_offence}
 use Rattle.h2_frames.proofs.Again.{head, header_again}
-use Rattle.h2_frames.proofs.Steps.{chosen}
 use Rattle.h2_frames.proofs.HeaderFound.{header_found}
 
 -- ---- what a header says does not depend on its place

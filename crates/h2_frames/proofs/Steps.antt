@@ -1,13 +1,10 @@
 -- Bytes, and what follows from a reading that gave a value, step by step.
-use Rattle.std.proofs.Common.{◌≡◌, ℕ, zero, suc, ◌+◌, ◌<◌, ◌⊎◌, inl, inr, Bool, true, false, cond, Result, Ok, Err, Option, Some, None, List, [], ◌∷◌, take, drop, refl, arith}
-use Rattle.std.proofs.lemmas.List.{get_or-drop}
+use Rattle.std.proofs.Common.{◌≡◌, ℕ, zero, suc, ◌<◌, Bool, true, false, cond, Result, Ok, Err, Option, Some, None, List, [], ◌∷◌, take, refl, arith}
+use Rattle.proto_wire.specs.Reading.{IsBytes}
 use Rattle.h2_frames.specs.declared.fault.FrameFault.{FrameFault}
-use Rattle.h2_frames.specs.Reading.{IsBytes, ◌>>=◌, unless}
+use Rattle.h2_frames.specs.Reading.{◌>>=◌, unless}
 
 -- ---- bytes
-
-pub IsBytes-drop : (n : ℕ) (text : List ℕ) → IsBytes text → IsBytes (drop n text)
-IsBytes-drop n text h i = rw get_or-drop (h (n + i))
 
 pub IsBytes-take : (n : ℕ) (text : List ℕ) → IsBytes text → IsBytes (take n text)
 IsBytes-take zero text h i = omega arith
@@ -36,10 +33,6 @@ bind_ok (Err d) f y e = absurd cc
 pub guard_ok : {A : Type 0} (b : Bool) (d : FrameFault) (x y : A) → cond b (Err d) (Ok x) ≡ Ok y → (b ≡ false) × (x ≡ y)
 guard_ok true d x y e = absurd cc
 guard_ok false d x y e = (refl, cc)
-
-pub chosen : {A : Type 0} (b : Bool) (x y z : A) → cond b x y ≡ z → ((b ≡ true) × (x ≡ z)) ⊎ ((b ≡ false) × (y ≡ z))
-chosen true x y z e = inl (refl, e)
-chosen false x y z e = inr (refl, e)
 
 abbrev pub done : {A : Type 0} → A → Result A FrameFault
 done x = Ok x

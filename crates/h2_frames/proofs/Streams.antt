@@ -1,9 +1,11 @@
 -- A reader gives the frames of all bytes that were fed, in their order.
 use Rattle.std.proofs.Common.{◌≡◌, ℕ, ◌+◌, ◌≤◌, ◌⊎◌, inl, inr, Bool, true, false, cond, Result, Ok, Err, Option, Some, None, List, [], ◌∷◌, ◌++◌, length, take, drop, refl, sym, ap, subst, ◌∙◌, append_assoc, arith}
-use Rattle.std.proofs.lemmas.List.{append-nil, length-append, length-take, take-append-drop, take_at, take-append-le, get_or-append-add}
+use Rattle.std.proofs.lemmas.List.{append-nil, length-append, length-take, take-append-drop, take_at, take-append-le}
+use Rattle.proto_wire.specs.Reading.{IsBytes}
+use Rattle.proto_wire.proofs.Found.{IsBytes-behind}
 use Rattle.h2_frames.specs.declared.fault.FrameFault.{FrameFault}
 use Rattle.h2_frames.specs.declared.frame.Frame.{Frame}
-use Rattle.h2_frames.specs.Reading.{IsBytes, ◌>>=◌, frame_at}
+use Rattle.h2_frames.specs.Reading.{◌>>=◌, frame_at}
 use Rattle.h2_frames.specs.Stream.{Pending, preface, preface_at, advanced, behind, begun, seen, give, given, fed_by, fed}
 use Rattle.h2_frames.specs.declared.layout.Header.{Header}
 use Rattle.h2_frames.specs.Grammar.{HasHeader, HasOffence, IsOverpadded, Frames, front_of, IsStream, StandsBehind, HasGiven, GoesBy, Goes}
@@ -56,9 +58,6 @@ begun_before : (b : Pending) → b.due ≡ true → begun b ≡ behind (preface_
 unfolding begun
 begun_before b e = ap (λ (due : Bool). cond due (behind (preface_at b.at b.rest) b) b) e
 
-bytes_behind : (first rest : List ℕ) → IsBytes (first ++ rest) → IsBytes rest
-bytes_behind first rest h i = rw (← get_or-append-add first rest i 0) (h (length first + i))
-
 goes_ended : (due : Bool) (text : List ℕ) (ps : List (ℕ × Frame)) (s : Pending) (end : Option FrameFault) → HasGiven due text ps s → IsStream due text ps end → Goes due text ps (ended end s)
 goes_ended due text ps s None h x = (h, x)
 goes_ended due text ps s (Some e) h x = x
@@ -66,7 +65,7 @@ goes_ended due text ps s (Some e) h x = x
 goes_behind : (due : Bool) (text : List ℕ) (ps : List (ℕ × Frame)) (b : Pending) → IsBytes text → StandsBehind due text ps b → Goes due text ps (seen b >>= λ o. Ok (give b o))
 goes_behind due text ps b fits x =
     let at : ℕ = length (front_of due) in
-    let rest_fits : IsBytes b.rest = bytes_behind x.middle b.rest (bytes_behind (front_of due) (x.middle ++ b.rest) (subst IsBytes x.whole fits)) in
+    let rest_fits : IsBytes b.rest = IsBytes-behind x.middle b.rest (IsBytes-behind (front_of due) (x.middle ++ b.rest) (subst IsBytes x.whole fits)) in
     let sees = seen_behind b x.begun in
     elim (case_of (frame_at b.at b.rest)) [
       | inl r ↦

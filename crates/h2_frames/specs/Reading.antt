@@ -1,5 +1,5 @@
 -- What stands at the beginning of some bytes: nothing whole, the first offence, or a frame and its length.
-use Rattle.std.specs.Prelude.{◌≡◌, ◌+◌, ◌-◌, ◌%◌, ◌==◌, nat_lt, ℕ, List, [], ◌∷◌, length, take, drop, slice_index, slice_index_or, ◌<◌, Option, Some, None, Result, Ok, Err, if◌then◌else◌}
+use Rattle.std.specs.Prelude.{◌≡◌, ◌+◌, ◌-◌, ◌%◌, ◌==◌, nat_lt, ℕ, List, [], ◌∷◌, length, take, drop, slice_index, Option, Some, None, Result, Ok, Err, if◌then◌else◌}
 use Rattle.std.specs.Int.{w16, w32, from_be_bytes}
 use Rattle.h2_frames.specs.declared.fault.FrameFault.{FrameFault}
 use Rattle.h2_frames.specs.declared.fault.FrameFault.TheVariants as faults
@@ -7,10 +7,6 @@ use Rattle.h2_frames.specs.declared.frame.Frame.{Frame}
 use Rattle.h2_frames.specs.declared.frame.Frame.TheVariants as frames
 use Rattle.h2_frames.specs.declared.layout.Header.{Header}
 use Rattle.h2_frames.specs.Layout.{has, priority_len, number_at, header_of, offence}
-
--- each number is one of a byte
-abbrev pub IsBytes : List ℕ → Type 0
-IsBytes text = (i : ℕ) → slice_index_or text i 0 < 256
 
 -- the next step, where the one before gave a value
 infixl 10 ◌>>=◌

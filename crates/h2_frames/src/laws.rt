@@ -1,9 +1,10 @@
 //! What holds of the definitions alone.
 
 ghost use Rattle.std.specs.Prelude.{◌≡◌, ◌+◌, ◌≤◌, ◌++◌, [], List, ℕ, Bool, length, take, Option, Some, None, Ok, Err};
+ghost use Rattle.proto_wire.specs.Reading.{IsBytes};
 ghost use Rattle.h2_frames.specs.declared.fault.FrameFault.{FrameFault as Fault};
 ghost use Rattle.h2_frames.specs.declared.frame.Frame.{Frame as AFrame};
-ghost use Rattle.h2_frames.specs.Reading.{IsBytes, frame_at};
+ghost use Rattle.h2_frames.specs.Reading.{frame_at};
 ghost use Rattle.h2_frames.specs.Spelling.{IsSpelling, spelled, Writable, IsTyped};
 ghost use Rattle.h2_frames.specs.Stream.{Pending, given, fed};
 ghost use Rattle.h2_frames.specs.Runs.{Event, bytes_of, frames_of, Runs};

@@ -11,7 +11,7 @@ use Rattle.hpack_tables.specs.declared.fault.HpackFault.TheVariants as faults
 use Rattle.hpack_tables.specs.Table.{HeaderTable, size_of, list_size}
 use Rattle.hpack_tables.specs.Block.{AreBytes, IsBlock, AreSteps, Step, onto, max_list}
 use Rattle.hpack_tables.specs.Reading.{Given, Place, begin, size_if, goes_on, behind, with_header, go_on, representation_at, headers_from, block_at}
-use Rattle.hpack_tables.proofs.LawSteps.{passed}
+use Rattle.hpack_tables.proofs.Steps.{passed}
 use Rattle.hpack_tables.proofs.LawString.{rest_bytes}
 use Rattle.hpack_tables.proofs.LawRepresentation.{TakesRepresentation, representation_takes, representation_again, representation_some}
 

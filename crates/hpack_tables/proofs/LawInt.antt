@@ -2,11 +2,12 @@
 use Rattle.std.proofs.Common.{◌≡◌, ℕ, zero, suc, ◌+◌, ◌-◌, ◌*◌, ◌/◌, ◌%◌, ◌^◌, ◌<◌, ◌≤◌, inl, inr, false, true, ltb, Ok, List, [], ◌∷◌, ◌++◌, length, refl, sym, ap, subst, arith}
 use Rattle.std.proofs.lemmas.Bool.{cases_lt, lt-ltb, le-ltb, ltb-true, ltb-false}
 use Rattle.std.proofs.Math.Nat.{pow-succ'}
+use Rattle.proto_wire.proofs.Steps.{chosen}
 use Rattle.hpack_tables.specs.declared.offence.Offence.TheVariants as offences
 use Rattle.hpack_tables.specs.Integer.{Groups, IsInt, filled, groups_of, int_spelled}
 use Rattle.hpack_tables.specs.Block.{AreBytes}
 use Rattle.hpack_tables.specs.Reading.{◌>>=◌, groups_at, small_int, int_at}
-use Rattle.hpack_tables.proofs.LawSteps.{bind_ok, held, chosen, ok_is}
+use Rattle.hpack_tables.proofs.Steps.{bind_ok, held_ok, ok_is}
 
 -- ---- groups
 
@@ -97,7 +98,7 @@ int_takes bits high b rest x h fits e =
       | inl p ↦ subst (λ (y : ℕ × List ℕ). TakesInt bits high (b ∷ rest) y.0 y.1) (ok_is (b % 2 ^ bits, rest) x p.1) (takes_short bits high b rest h (ltb-true _ _ p.0))
       | inr p ↦
           let g = bind_ok (groups_at 5 rest) (λ more. small_int (filled bits + more.0, more.1)) x p.1 in
-          let s = held (ltb (filled bits + g.0.0) (2 ^ 32)) offences.Int (filled bits + g.0.0, g.0.1) x g.2 in
+          let s = held_ok (ltb (filled bits + g.0.0) (2 ^ 32)) offences.Int (filled bits + g.0.0, g.0.1) x g.2 in
           subst (λ (y : ℕ × List ℕ). TakesInt bits high (b ∷ rest) y.0 y.1) s.1
           (takes_long bits high b g.0.0 rest g.0.1 h (ltb-false _ _ p.0) (ltb-true _ _ s.0) (groups_take 5 rest g.0 fits g.1))
     ]

@@ -2,6 +2,7 @@
 use Rattle.std.proofs.Common.{◌≡◌, ℕ, zero, suc, ◌+◌, ◌<◌, ◌≤◌, inl, inr, Bool, true, cond, ltb, Result, Ok, Err, Option, Some, None, List, [], ◌∷◌, ◌++◌, length, refl, sym, ap, subst, arith, ◌∙◌, append_assoc}
 use Rattle.std.specs.Prelude.{◌&&◌}
 use Rattle.std.proofs.lemmas.Bool.{cases_lt, lt-ltb, le-ltb, ltb-true, ltb-false, and_parts}
+use Rattle.proto_wire.proofs.Steps.{chosen}
 use Rattle.hpack_tables.specs.declared.header.Header.{Header}
 use Rattle.hpack_tables.specs.declared.offence.Offence.{Offence}
 use Rattle.hpack_tables.specs.declared.offence.Offence.TheVariants as offences
@@ -9,7 +10,7 @@ use Rattle.hpack_tables.specs.Integer.{IsInt}
 use Rattle.hpack_tables.specs.Table.{HeaderTable, header_at, with_entry, with_max}
 use Rattle.hpack_tables.specs.Block.{AreBytes, IsName, IsLiteral, IsRepresentation, max_table}
 use Rattle.hpack_tables.specs.Reading.{◌>>=◌, int_at, entry_or_offence, name_by, string_at, literal_at, Given, given, indexed_at, update_at, representation_at}
-use Rattle.hpack_tables.proofs.LawSteps.{bind_ok, held, chosen, ok_is}
+use Rattle.hpack_tables.proofs.Steps.{bind_ok, held_ok, ok_is}
 use Rattle.hpack_tables.proofs.LawInt.{TakesInt, HasHigh, IsHigh, HasFirst, int_takes, int_again, int_first, first_append, int_some}
 use Rattle.hpack_tables.proofs.LawString.{TakesString, rest_bytes, string_takes, string_again}
 
@@ -95,7 +96,7 @@ update_takes : (t : HeaderTable) (may_update : Bool) (b : ℕ) (rest : List ℕ)
 unfolding update_at
 update_takes t may_update b rest g large small fits e =
     let i = bind_ok (int_at 5 (b ∷ rest)) (λ max. cond (may_update && ltb max.0 (max_table + 1)) (Ok (given None (with_max t max.0) max.1)) (Err offences.Update)) g e in
-    let h = held (may_update && ltb i.0.0 (max_table + 1)) offences.Update (given None (with_max t i.0.0) i.0.1) g i.2 in
+    let h = held_ok (may_update && ltb i.0.0 (max_table + 1)) offences.Update (given None (with_max t i.0.0) i.0.1) g i.2 in
     let both = and_parts may_update (ltb i.0.0 (max_table + 1)) h.0 in
     let few = ltb-true _ _ both.1 in
     let max = int_takes 5 32 b rest i.0 (record { whole = omega arith; within = omega arith; few = omega arith }) fits.1 i.1 in

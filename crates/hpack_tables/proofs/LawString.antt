@@ -2,13 +2,14 @@
 use Rattle.std.proofs.Common.{◌≡◌, ℕ, ◌+◌, ◌≤◌, inl, inr, false, true, cond, ltb, Ok, Err, Option, Some, None, List, [], ◌∷◌, ◌++◌, length, take, drop, refl, sym, ap, subst, arith, ◌∙◌, append_assoc}
 use Rattle.std.proofs.lemmas.Bool.{lt-ltb, le-ltb, ltb-true, ltb-false}
 use Rattle.std.proofs.lemmas.List.{length-append, length-take-le, take-append-drop, take_at, drop_at}
+use Rattle.proto_wire.proofs.Steps.{chosen}
 use Rattle.hpack_tables.specs.declared.offence.Offence.TheVariants as offences
 use Rattle.hpack_tables.specs.Huffman.{IsHuffman, text_of}
 use Rattle.hpack_tables.specs.Integer.{IsInt}
 use Rattle.hpack_tables.specs.Block.{AreBytes, IsString}
 use Rattle.hpack_tables.specs.Reading.{int_at, text_or_offence, is_coded, string_at}
 use Rattle.hpack_tables.proofs.HuffmanLaws.{read as huffman_read, spelled as huffman_spelled}
-use Rattle.hpack_tables.proofs.LawSteps.{bind_ok, passed, chosen, ok_is}
+use Rattle.hpack_tables.proofs.Steps.{bind_ok, passed, ok_is}
 use Rattle.hpack_tables.proofs.LawInt.{TakesInt, IsHigh, HasFirst, int_takes, int_again, int_first}
 
 bytes_behind : (front rest : List ℕ) → AreBytes (front ++ rest) → AreBytes rest

@@ -11,7 +11,6 @@ pub mod LawBlock
 pub mod LawEncoded
 pub mod LawInt
 pub mod LawRepresentation
-pub mod LawSteps
 pub mod LawString
 pub mod Places
 pub mod Shrinks
