@@ -1,7 +1,7 @@
 -- What the view of a bench's chosen seat says of all of the bench.
 use Rattle.std.proofs.Common.{◌≡◌, ℕ, ◌+◌, Bool, false, List, [], ◌∷◌, ◌++◌, length, set, Option, Some, refl, sym, ap, subst, ◌∙◌, length-append, arith}
 use Rattle.std.specs.Prelude.{slice_index_or, slice_set}
-use Rattle.std.proofs.lemmas.List.{append-nil, set-set, set-get_or}
+use Rattle.std.proofs.lemmas.List.{append-nil, set-set, set-get_or, length-set}
 use Rattle.store_core.specs.State.{State}
 use Rattle.store_core.specs.declared.event.Event.{Event}
 use Rattle.store_core.specs.declared.event.Event.TheVariants as events
@@ -10,7 +10,7 @@ use Rattle.store_core.specs.declared.event.Reply.TheVariants as replies
 use Rattle.store_core.specs.Step.{step, served}
 use Rattle.store_core.specs.History.{Entry, state, Legal}
 use Rattle.blob_store.specs.declared.seat.Seat.{Seat}
-use Rattle.blob_store.specs.View.{Aside, IsSound, Extends, Makes, Waits, Enters, StaysOut, Leaves}
+use Rattle.blob_store.specs.View.{Aside, IsSound, Extends, Turns, Makes, Waits, Enters, StaysOut, Leaves}
 use Rattle.blob_store.specs.Benched.{Benched, IsAtStep, store_of, seat_of, view_of, unseated, seated, unseated_now}
 use Rattle.blob_store.proofs.ViewLaws.{last_step}
 
@@ -37,6 +37,27 @@ one_added old more before new entry grown ends n =
 
 -- ---- the seats
 
+-- what stands beside the chosen seat tells how many seats there are
+pub as_many : (old new : Benched) → (view_of new).aside ≡ (view_of old).aside → length new.seats ≡ length old.seats
+as_many old new aside =
+    sym (length-set new.seats new.chosen unseated) ∙ ap (λ (a : Aside). length a.seats) aside ∙ length-set old.seats old.chosen unseated
+
+-- so do the calls at the chosen seat
+pub turns_as_many : (old new : Benched) (turns : ℕ) (made : List (Event × Reply)) → Turns (view_of old) (view_of new) turns made → length new.seats ≡ length old.seats
+turns_as_many old new n made turns = as_many old new turns.aside
+
+pub makes_as_many : (old new : Benched) (event : Event) (reply : Reply) → Makes (view_of old) (view_of new) event reply → length new.seats ≡ length old.seats
+makes_as_many old new event reply makes = as_many old new makes.turns.aside
+
+pub enters_as_many : (old new : Benched) → Enters (view_of old) (view_of new) → length new.seats ≡ length old.seats
+enters_as_many old new enters = as_many old new enters.aside
+
+pub stays_as_many : (old new : Benched) → StaysOut (view_of old) (view_of new) → length new.seats ≡ length old.seats
+stays_as_many old new stays = as_many old new stays.aside
+
+pub leaves_as_many : (old new : Benched) → Leaves (view_of old) (view_of new) → length new.seats ≡ length old.seats
+leaves_as_many old new leaves = as_many old new leaves.aside
+
 -- the seats are those beside the chosen one and that
 seats_by : (xs ys : List Seat) (i : ℕ) (seat : Seat) → slice_set xs i unseated ≡ slice_set ys i unseated → slice_index_or xs i unseated ≡ seat → xs ≡ slice_set ys i seat
 seats_by xs ys i seat beside is =
@@ -46,7 +67,7 @@ seats_by xs ys i seat beside is =
     ∙ ap (λ (seats : List Seat). set seats i seat) beside
     ∙ set-set ys i unseated seat
 
-seat_is : (a b : Seat) → a.owner ≡ b.owner → a.entered ≡ b.entered → a ≡ b
+pub seat_is : (a b : Seat) → a.owner ≡ b.owner → a.entered ≡ b.entered → a ≡ b
 seat_is a b owner entered = ap (λ (o : Option ℕ). record { owner = o; entered = a.entered }) owner ∙ ap (λ (e : Bool). record { owner = b.owner; entered = e }) entered
 
 -- what stays beside, and the chosen seat, give all seats

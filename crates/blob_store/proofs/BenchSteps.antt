@@ -21,7 +21,7 @@ use Rattle.store_core.specs.Standing.{standing}
 use Rattle.store_core.specs.Step.{is_open, is_opening, with_room, with_row, put_over, put, missing, touched, is_here, own_lease, confirmed, released, closed, served, step}
 use Rattle.store_core.specs.History.{Entry, state, IsNumbered, IsLegalAt, Legal, own, own_leases, leases_of}
 use Rattle.store_core.proofs.Elements.{every_weaker, every_contains, every_has}
-use Rattle.store_core.proofs.Entries.{leases_by_own}
+use Rattle.store_core.proofs.Entries.{leases_by_own, served_by}
 use Rattle.store_core.proofs.Histories.{state_after}
 use Rattle.store_core.proofs.Kept.{chosen, follows_step}
 use Rattle.store_core.proofs.OwnerLaws.{open_has}
@@ -311,10 +311,6 @@ opening_is (events.Damage d) e = absurd cc
 opening_is events.Pass e = absurd cc
 opening_is events.Usage e = absurd cc
 opening_is events.Close e = absurd cc
-
-served_by : (b : Bool) (x : Reply × State) (s : State) (reply : Reply) → reply ≡ (cond b x (replies.Refused, s)).0 → reply ≢ replies.Refused → b ≡ true
-served_by true x s reply e h = refl
-served_by false x s reply e h = absurd (h e)
 
 -- a legal entry opens an owner, or its owner is open
 legal_open : (s : State) (entry : Entry) → IsLegalAt s entry → (is_opening entry.event || is_open s entry.owner) ≡ true

@@ -12,12 +12,12 @@ use Rattle.indexmap.specs.IndexMap.{insert_entry}
 use Rattle.store_core.specs.declared.state.Row.{Row}
 use Rattle.store_core.specs.State.{same, is_among}
 use Rattle.store_core.proofs.Same.{equal_from_same, not_same_from_other, other_from_not_same}
+use Rattle.store_core.proofs.Guarding.{same_swap}
 use Rattle.lease_table.specs.Table.{other_digests, DistinctDigests}
+use Rattle.lease_table.proofs.OrderLaws.{all_others}
 use Rattle.blob_store.specs.Shelves.{Shelved, counting, discarding}
-use Rattle.lease_table.proofs.RowLaws.{same_turned}
 use Rattle.indexed_core.specs.Parts.{has_row}
 use Rattle.indexed_core.specs.Removal.{AreRows}
-use Rattle.indexed_core.proofs.HeldLaws.{all_others}
 use Rattle.indexed_core.proofs.JoinedLaws.{among_kept}
 use Rattle.blob_store.specs.Kept.{Kept, AreBodiesOf}
 
@@ -88,7 +88,7 @@ module _ {V : Type 0} where
   pub removed : (d : HashAndSize) (entries : List (HashAndSize × V)) → IsDistinct same (keys_of entries) → keys_of (remove_entry (same d) entries) ≡ other_digests d (keys_of entries)
   removed d [] distinct = refl
   removed d (e ∷ es) distinct =
-      removed_by d e es (same d e.0) (same e.0 d) (same_turned d e.0)
+      removed_by d e es (same d e.0) (same e.0 d) (same_swap d e.0)
       (λ t. all_others d (keys_of es) (differing d e.0 (keys_of es) (equal_from_same d e.0 t) (IsDistinct-head same e.0 (keys_of es) distinct)))
       (removed d es (IsDistinct-tail same e.0 (keys_of es) distinct))
 

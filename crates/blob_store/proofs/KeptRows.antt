@@ -20,8 +20,8 @@ use Rattle.store_core.specs.Pass.{guarded}
 use Rattle.store_core.specs.Step.{step, served, is_opening, is_open, is_here, touched, touched_all, damaged, own_lease, confirmed, released, put, put_over, passed}
 use Rattle.store_core.proofs.RowLaws.{IsTurned, turned_touched, turned_touched_all, damaged_row, unsound_if}
 use Rattle.store_core.proofs.Same.{equal_from_same}
+use Rattle.store_core.proofs.Guarding.{same_swap}
 use Rattle.lease_table.specs.Table.{other_digests}
-use Rattle.lease_table.proofs.RowLaws.{same_turned}
 use Rattle.indexed_core.specs.Events.{moves_bodies}
 use Rattle.indexed_core.specs.Parts.{has_row}
 use Rattle.indexed_core.specs.Removal.{PutsRow, removed, adds_row, told_gone}
@@ -157,7 +157,7 @@ last_by false false = refl
 
 pub last_among : (ds : List HashAndSize) (digest : HashAndSize) (d : HashAndSize) → is_among (ds ++ digest ∷ []) d ≡ (same digest d || is_among ds d)
 last_among ds digest d =
-    list_any-append (same d) ds (digest ∷ []) ∙ last_by (is_among ds d) (same d digest) ∙ ap (λ (b : Bool). b || is_among ds d) (same_turned d digest)
+    list_any-append (same d) ds (digest ∷ []) ∙ last_by (is_among ds d) (same d digest) ∙ ap (λ (b : Bool). b || is_among ds d) (same_swap d digest)
 
 -- ---- one row less
 

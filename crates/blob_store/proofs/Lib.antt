@@ -6,4 +6,5 @@ pub mod KeptRows
 pub mod MemoryLemmas
 pub mod TakingLemmas
 pub mod ViewLaws
+pub mod VisitBenchLaws
 pub mod VisitLaws

@@ -7,7 +7,7 @@ use Rattle.blob_store.specs.declared.memory.MemBody.{MemBody}
 use Rattle.blob_store.specs.declared.memory.MemReader.{MemReader}
 
 -- the bytes of the bodies to be found; which calls fail and which drafts are spoilt, by their numbers from 0; how many
--- calls and drafts there were; the count of faults, and how many bodies were given up
+-- calls and drafts there were; the count of faults, and how many bodies and drafts were given up
 pub record MemState : Type 0 where
   pub found : List (List ℕ)
   pub failing : List ℕ
@@ -16,6 +16,7 @@ pub record MemState : Type 0 where
   pub drafts : ℕ
   pub faults : ℕ
   pub discarded : ℕ
+  pub dropped : ℕ
 
 -- whether there are any numbers
 abbrev pub are_some : List ℕ → Bool
@@ -24,7 +25,7 @@ are_some (n ∷ numbers) = true
 
 -- what the shelf tells of itself
 abbrev pub shelved_of : MemState → Shelved
-shelved_of s = record { faults = s.faults; discarded = s.discarded; may_fail = are_some s.failing; found = Some (map (λ bytes. Some bytes) s.found); to_find = min (length s.found) (2 ^ 63) }
+shelved_of s = record { faults = s.faults; discarded = s.discarded; dropped = s.dropped; may_fail = are_some s.failing; found = Some (map (λ bytes. Some bytes) s.found); to_find = min (length s.found) (2 ^ 63) }
 
 -- a call was made
 abbrev pub after_call : MemState → MemState
@@ -33,6 +34,10 @@ after_call s = record s { calls = counted s.calls }
 -- a call failed
 abbrev pub after_fault : MemState → MemState
 after_fault s = record s { calls = counted s.calls; faults = counted s.faults }
+
+-- a draft couldn't be made a body, and was given up
+abbrev pub after_lost : MemState → MemState
+after_lost s = record s { calls = counted s.calls; faults = counted s.faults; dropped = counted s.dropped }
 
 -- a body was given up
 abbrev pub after_discard : MemState → MemState

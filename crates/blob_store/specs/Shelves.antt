@@ -4,12 +4,13 @@ use Rattle.casd_base.specs.Causes.{Rose}
 use Rattle.blob_store.specs.declared.shelf.ShelfEnd.{ShelfEnd}
 use Rattle.blob_store.specs.declared.shelf.ShelfEnd.TheVariants.{Failed}
 
--- How many calls failed, and how many bodies were given up, each up to 2^64 - 1; whether a call may fail at all; the
--- bodies that are still to be found, in order and each with its bytes where it tells them, if the shelf tells that; and a
--- number that falls with each body that is found.
+-- How many calls failed, how many bodies and how many drafts were given up, each up to 2^64 - 1; whether a call may fail
+-- at all; the bodies that are still to be found, in order and each with its bytes where it tells them, if the shelf tells
+-- that; and a number that falls with each body that is found.
 pub record Shelved : Type 0 where
   pub faults : ℕ
   pub discarded : ℕ
+  pub dropped : ℕ
   pub may_fail : Bool
   pub found : Option (List (Option (List ℕ)))
   pub to_find : ℕ
@@ -17,6 +18,7 @@ pub record Shelved : Type 0 where
 -- a call that finds no body leaves those that are to be found and gives none up, and the count of faults never falls
 pub record Stays (old new : Shelved) : Type 0 where
   pub discarded : new.discarded ≡ old.discarded
+  pub dropped : new.dropped ≡ old.dropped
   pub may_fail : new.may_fail ≡ old.may_fail
   pub found : new.found ≡ old.found
   pub to_find : new.to_find ≤ old.to_find
@@ -38,6 +40,10 @@ counting (suc more) n = min (n + suc more) (2 ^ 64 - 1)
 -- so many bodies were given up, and all else stays
 abbrev pub discarding : ℕ → Shelved → Shelved
 discarding count s = record s { discarded = counting count s.discarded }
+
+-- a draft was given up, and all else stays
+abbrev pub dropping : Shelved → Shelved
+dropping s = record s { dropped = counting 1 s.dropped }
 
 -- what a draft tells grows by just these bytes; one that tells nothing goes on so
 abbrev pub appended : Option (List ℕ) → List ℕ → Option (List ℕ)

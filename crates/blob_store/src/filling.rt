@@ -1,7 +1,7 @@
 //! `Filling`.
 
 ghost use Rattle.std.specs.Prelude.{◌≡◌, ◌+◌, ◌^◌, ◌≤◌, ◌++◌, [], false, true, length, IfOk, OnOk, OnErr};
-ghost use Rattle.blob_store.specs.Shelves.{Stays, HasShelfCause, appended};
+ghost use Rattle.blob_store.specs.Shelves.{Stays, HasShelfCause, appended, dropping};
 ghost use Rattle.blob_store.specs.Bodies.{IsSealed};
 
 use crate::checked::Checked;
@@ -66,7 +66,8 @@ impl<K: Shelf> Filling<K> {
     pub fn finish(self, shelf: &mut K) -> Result<Checked<K>, ShelfEnd>
         requires { self.refused ≡ false }
         ensures sealed { IfOk result (IsSealed self.bytes) }
-        ensures stays { Stays (K.shelved shelf.old) (K.shelved shelf.new) }
+        ensures ok { OnOk result (Stays (K.shelved shelf.old) (K.shelved shelf.new)) }
+        ensures err { OnErr result (Stays (dropping (K.shelved shelf.old)) (K.shelved shelf.new)) }
         ensures cause { HasShelfCause (K.shelved shelf.old) (K.shelved shelf.new) result }
     {
         let Filling {
@@ -89,7 +90,7 @@ impl<K: Shelf> Filling<K> {
 
     /// Gives the draft up. It takes no memory.
     pub fn give_up(self, shelf: &mut K)
-        ensures { K.shelved shelf.new ≡ K.shelved shelf.old }
+        ensures { K.shelved shelf.new ≡ dropping (K.shelved shelf.old) }
     {
         let Filling { draft, .. } = self;
         shelf.drop_draft(draft);

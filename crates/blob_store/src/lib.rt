@@ -28,6 +28,8 @@ pub use shelf::{Shelf, ShelfEnd};
 pub use store::Store;
 
 #[cfg(test)]
+mod bench_tests;
+#[cfg(test)]
 mod generic_tests;
 #[cfg(test)]
 mod store_tests;

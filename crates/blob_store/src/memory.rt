@@ -2,7 +2,8 @@
 
 ghost use Rattle.std.specs.Prelude.{◌≡◌, ◌≤◌, ◌^◌, ◌↔◌, ◌++◌, if◌then◌else◌, [], length, take, drop, Some, Contains, IsTrue, IsErr, IsErrOf, IfOk, IfErr, OnOk, OnErr};
 ghost use Rattle.std.proofs.Common.{arith};
-ghost use Rattle.blob_store.specs.Memory.{MemState, shelved_of, after_call, after_fault, after_draft, after_found, raised_first, body_of, reader_of, first_body, told_if, given_at};
+ghost use Rattle.casd_base.specs.Memory.{counted};
+ghost use Rattle.blob_store.specs.Memory.{MemState, shelved_of, after_call, after_fault, after_lost, after_draft, after_found, raised_first, body_of, reader_of, first_body, told_if, given_at};
 ghost use Rattle.blob_store.specs.declared.shelf.ShelfEnd.TheVariants.{Failed as Fault, OutOfMemory as NoMemory};
 
 use crate::shelf::{Shelf, ShelfEnd};
@@ -23,6 +24,7 @@ pub struct MemShelf {
     drafts: u64,
     faults: u64,
     discarded: u64,
+    dropped: u64,
 }
 
 /// A draft in memory, and whether its body is going to be spoilt.
@@ -59,6 +61,7 @@ impl Model for MemShelf {
       drafts = s.drafts;
       faults = s.faults;
       discarded = s.discarded;
+      dropped = s.dropped;
     } };
 }
 
@@ -75,6 +78,7 @@ impl MemShelf {
           drafts = 0;
           faults = 0;
           discarded = 0;
+          dropped = 0;
         } }
     {
         MemShelf {
@@ -86,6 +90,7 @@ impl MemShelf {
             drafts: 0,
             faults: 0,
             discarded: 0,
+            dropped: 0,
         }
     }
 
@@ -94,6 +99,13 @@ impl MemShelf {
         ensures { result ≡ self.now.discarded }
     {
         self.discarded
+    }
+
+    /// How many drafts were given up. It takes no memory.
+    pub fn dropped(&self) -> u64
+        ensures { result ≡ self.now.dropped }
+    {
+        self.dropped
     }
 
     /// How many calls failed. It takes no memory.
@@ -138,16 +150,20 @@ impl MemShelf {
         Ok(())
     }
 
-    /// The next draft that is made a body: it fails exactly where it is told to. It takes no memory.
+    /// The next draft that is made a body: it fails exactly where it is told to, and then gives
+    /// the draft up. It takes no memory.
     pub fn next_seal(&mut self, draft: MemDraft) -> Result<MemBody, ShelfEnd>
         ensures fails { IsErr result ↔ Contains self.old.failing self.old.calls }
         ensures body { IfOk result (λ b. b ≡ body_of draft) }
         ensures ok { OnOk result (self.new ≡ after_call self.old) }
         ensures fault { IfErr result (λ e. e ≡ Fault) }
-        ensures err { OnErr result (self.new ≡ after_fault self.old) }
+        ensures err { OnErr result (self.new ≡ after_lost self.old) }
         ensures later { self.old.faults ≤ self.new.faults }
     {
-        self.call()?;
+        if let Err(e) = self.call() {
+            self.drop_one(draft);
+            return Err(e.into());
+        }
         let MemDraft { bytes, spoilt } = draft;
         Ok(MemBody {
             bytes: spoilt_if(spoilt, bytes),
@@ -202,6 +218,14 @@ impl MemShelf {
     {
         self.call()?;
         Ok(first_of(&mut self.found))
+    }
+
+    // Gives a draft up, and counts it.
+    fn drop_one(&mut self, draft: MemDraft)
+        ensures { self.new ≡ record self.old { dropped = counted self.old.dropped } }
+    {
+        drop(draft);
+        self.dropped = self.dropped.saturating_add(1);
     }
 
     // Counts a call, and refuses it where it is told to.
@@ -292,7 +316,7 @@ impl Shelf for MemShelf {
         self.next_append(draft, bytes)
     }
 
-    #[tactic(auto, using(crate::proofs::MemoryLemmas::stays_call, crate::proofs::MemoryLemmas::some_fails))]
+    #[tactic(auto, using(crate::proofs::MemoryLemmas::stays_seal, crate::proofs::MemoryLemmas::loses_seal, crate::proofs::MemoryLemmas::some_fails))]
     fn seal(&mut self, draft: MemDraft) -> Result<MemBody, ShelfEnd> {
         self.next_seal(draft)
     }
@@ -318,7 +342,7 @@ impl Shelf for MemShelf {
     }
 
     fn drop_draft(&mut self, draft: MemDraft) {
-        drop(draft);
+        self.drop_one(draft);
     }
 
     #[tactic(auto, using(crate::proofs::MemoryLemmas::finds_first, crate::proofs::MemoryLemmas::some_fails))]

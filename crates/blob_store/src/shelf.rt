@@ -1,7 +1,7 @@
 //! `Shelf`.
 
 ghost use Rattle.std.specs.Prelude.{◌≡◌, ◌+◌, ◌<◌, ◌≤◌, ◌^◌, ◌⊎◌, ℕ, [], List, Option, length, take, drop, IfOk, OnOk, OnErr, IfSome, IfNone};
-ghost use Rattle.blob_store.specs.Shelves.{Shelved, Stays, Fails, HasShelfCause, discarding, appended, HasPart, Finds, FindsNone};
+ghost use Rattle.blob_store.specs.Shelves.{Shelved, Stays, Fails, HasShelfCause, discarding, dropping, appended, HasPart, Finds, FindsNone};
 ghost use Rattle.blob_store.specs.declared.shelf.ShelfEnd.TheVariants.{Failed as Fault, OutOfMemory as NoMemory};
 
 use casd_base::Failed;
@@ -41,7 +41,7 @@ pub trait Shelf {
 
     type Reader: Drop;
 
-    // the counts of faults and of bodies that were given up, and the bodies to be found
+    // the counts of faults and of bodies and drafts that were given up, and the bodies to be found
     ghost shelved: { Self → Shelved };
 
     // the bytes of a draft, of a body and of a reader's body, where they are told
@@ -67,7 +67,8 @@ pub trait Shelf {
     /// Makes a draft a body. Where it is refused the draft is given up.
     fn seal(&mut self, draft: Self::Draft) -> Result<Self::Body, ShelfEnd>
         ensures body { IfOk result (λ b. IfSome (kept b) (λ bytes. drafted draft ≡ Some bytes)) }
-        ensures stays { Stays (shelved self.old) (shelved self.new) }
+        ensures ok { OnOk result (Stays (shelved self.old) (shelved self.new)) }
+        ensures err { OnErr result (Stays (dropping (shelved self.old)) (shelved self.new)) }
         ensures cause { HasShelfCause (shelved self.old) (shelved self.new) result };
 
     /// A reader of a body.
@@ -98,7 +99,7 @@ pub trait Shelf {
 
     /// Gives a draft up.
     fn drop_draft(&mut self, draft: Self::Draft)
-        ensures { shelved self.new ≡ shelved self.old };
+        ensures { shelved self.new ≡ dropping (shelved self.old) };
 
     /// The next of the bodies that stood there when the shelf was made, each once, or None where there is none left.
     fn next_found(&mut self) -> Result<Option<Self::Body>, ShelfEnd>
@@ -108,6 +109,7 @@ pub trait Shelf {
         ensures to_find { (shelved self.new).to_find ≤ (shelved self.old).to_find }
         ensures later { (shelved self.old).faults ≤ (shelved self.new).faults }
         ensures discarded { (shelved self.new).discarded ≡ (shelved self.old).discarded }
+        ensures dropped { (shelved self.new).dropped ≡ (shelved self.old).dropped }
         ensures may_fail { (shelved self.new).may_fail ≡ (shelved self.old).may_fail }
         ensures cause { HasShelfCause (shelved self.old) (shelved self.new) result };
 

@@ -39,13 +39,13 @@ fn empty(
     Ok((Store::new(alloc, Marks { low, high })?, shelf))
 }
 
-fn digest(rt: &impl Abort, bytes: &[u8]) -> Digest {
+pub(crate) fn digest(rt: &impl Abort, bytes: &[u8]) -> Digest {
     assert!(rt; bytes.len() <= 100);
     Digest::of(bytes)
 }
 
 // The body of these bytes.
-fn body(
+pub(crate) fn body(
     rt: &impl Abort,
     alloc: Global,
     shelf: &mut MemShelf,

@@ -142,11 +142,21 @@ fn a_body_that_is_too_long_is_damaged_after_one_byte_more(rt: HostRuntime) -> Re
 
 #[test]
 fn each_call_fails_by_its_number(rt: HostRuntime) -> Result<(), Fail> {
-    for number in 0..6 {
+    // the call that fails, and how many drafts and bodies are given up
+    let cases = [
+        (0, 0, 0),
+        (1, 1, 0),
+        (2, 1, 0),
+        (3, 0, 0),
+        (4, 0, 1),
+        (5, 0, 1),
+    ];
+    for (number, drafts, bodies) in cases {
         let mut shelf = mem_shelf(rt.alloc(), &[b"x"], &[number], &[])?;
         let result = each_call(rt.alloc(), &mut shelf);
         assert_eq!(rt; result, Err(ShelfEnd::Failed), "call {number}");
-        assert_eq!(rt; shelf.faults(), 1, "call {number}");
+        let counts = (shelf.faults(), shelf.dropped(), shelf.discarded());
+        assert_eq!(rt; counts, (1, drafts, bodies), "call {number}");
     }
     let mut shelf = mem_shelf(rt.alloc(), &[b"x"], &[6], &[])?;
     assert_eq!(rt; each_call(rt.alloc(), &mut shelf), Ok(()));

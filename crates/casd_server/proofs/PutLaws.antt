@@ -16,6 +16,7 @@ use Rattle.store_core.specs.declared.event.Reply.{Reply}
 use Rattle.store_core.specs.State.{State, row_of, same}
 use Rattle.store_core.specs.Step.{with_room, put_over, put, served, step}
 use Rattle.store_core.proofs.Same.{same_from_equal, not_same_from_other}
+use Rattle.store_core.proofs.Entries.{put_leases}
 use Rattle.blob_store.specs.Bodies.{Sealed, IsSealed}
 use Rattle.blob_store.specs.View.{IsSound, Makes, Waits}
 use Rattle.blob_store.specs.Benched.{Benched, store_of, seat_of, view_of, unseated}
@@ -31,24 +32,9 @@ kept_if : {A : Type 0} (t : Bool) (x y : A × State) (ls : List Lease) → x.1.l
 kept_if true x y ls p q = p
 kept_if false x y ls p q = q
 
-one_if : (t : Bool) (x y : State) (ls : List Lease) → x.leases ≡ ls → y.leases ≡ ls → (cond t x y).leases ≡ ls
-one_if true x y ls p q = p
-one_if false x y ls p q = q
-
-with_room-leases : (s : State) (size : ℕ) → (with_room s size).leases ≡ s.leases
-with_room-leases s size = one_if _ _ _ _ refl refl
-
-put_over-leases : (s : State) (d : HashAndSize) (edges : Option (List Edge)) (row : Option Row) → (put_over s d edges row).1.leases ≡ s.leases
-put_over-leases s d edges (Some row) = refl
-put_over-leases s d edges None = kept_if {A = Reply} _ _ _ _ refl (with_room-leases s d.size)
-
-put-leases : (s : State) (d : HashAndSize) (edges : Option (List Edge)) → (put s d edges).1.leases ≡ s.leases
-unfolding put
-put-leases s d edges = kept_if {A = Reply} _ _ _ _ refl (put_over-leases s d edges (row_of d s.rows))
-
 step-put-leases : (s : State) (owner : ℕ) (d : HashAndSize) (edges : Option (List Edge)) → (step s owner (events.Put d edges)).1.leases ≡ s.leases
 unfolding step served
-step-put-leases s owner d edges = kept_if {A = Reply} _ _ _ _ (put-leases s d edges) refl
+step-put-leases s owner d edges = kept_if {A = Reply} _ _ _ _ (put_leases s d edges) refl
 
 -- ---- a put at a bench
 

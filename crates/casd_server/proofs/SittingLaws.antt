@@ -17,7 +17,7 @@ use Rattle.store_core.proofs.Entries.{closed_leases}
 use Rattle.blob_store.specs.declared.seat.Seat.{Seat}
 use Rattle.blob_store.specs.View.{IsSound, Makes, Enters, Leaves, StaysOut}
 use Rattle.blob_store.specs.Benched.{Benched, store_of, seat_of, view_of, unseated, seated, unseated_now}
-use Rattle.blob_store.proofs.BenchLaws.{makes_at, enters_at, leaves_at, stays_out_at}
+use Rattle.blob_store.proofs.BenchLaws.{makes_at, enters_at, leaves_at, stays_out_at, seat_is}
 use Rattle.casd_server.specs.declared.answer.Answer.{Answer}
 use Rattle.casd_server.specs.declared.answer.Answer.TheVariants as answers
 use Rattle.store_core.specs.declared.event.Usage.{Usage}
@@ -25,9 +25,6 @@ use Rattle.casd_server.specs.Answer.{Seated, answer_of, owner_in, owner_at, seat
 use Rattle.casd_server.specs.Sitting.{Sits, StaysSeated, owner_of, seated_at}
 
 -- ---- seats
-
-seat_is : (a b : Seat) → a.owner ≡ b.owner → a.entered ≡ b.entered → a ≡ b
-seat_is a b owner entered = ap (λ (o : Option ℕ). record { owner = o; entered = a.entered }) owner ∙ ap (λ (e : Bool). record { owner = b.owner; entered = e }) entered
 
 owner_of_in : (seat : Seat) (owner : ℕ) → seat.entered ≡ true → seat.owner ≡ Some owner → owner_of seat ≡ Some owner
 owner_of_in seat owner entered is_owner = cond-true seat.entered seat.owner None entered ∙ is_owner

@@ -9,7 +9,8 @@ use Rattle.digest_types.specs.Name.{HashAndSize}
 use Rattle.indexmap.specs.IndexMap.{insert_entry}
 use Rattle.store_core.specs.State.{same}
 use Rattle.store_core.proofs.Same.{equal_from_same, not_same_from_other, other_from_not_same}
-use Rattle.lease_table.proofs.RowLaws.{same_turned}
+use Rattle.store_core.proofs.Guarding.{same_swap}
+use Rattle.lease_table.proofs.MarkLaws.{or_false}
 use Rattle.indexed_core.specs.Joined.{Flag, is_flag, sound_in}
 
 -- an entry of the map
@@ -41,7 +42,7 @@ set_flags d sound flags = map (λ flag. if is_flag d flag then record flag { sou
 -- the flags of the entries whose keys differ from the digest are those of others
 differing : (d k : HashAndSize) (entries : List Entry) → d ≡ k → AllByRecursion (λ y. same k y ≡ false) (keys_of entries) → AllByRecursion (λ flag. is_flag d flag ≡ false) (flags_of entries)
 differing d k [] is h = tt
-differing d k (e ∷ es) is h = (same_turned e.0 d ∙ ap (λ (x : HashAndSize). same x e.0) is ∙ h.0, differing d k es is h.1)
+differing d k (e ∷ es) is h = (same_swap e.0 d ∙ ap (λ (x : HashAndSize). same x e.0) is ∙ h.0, differing d k es is h.1)
 
 -- the flags of the entries after one of the digest are those of others
 after : (d : HashAndSize) (e : Entry) (es : List Entry) → IsDistinct same (keys_of (e ∷ es)) → same d e.0 ≡ true → AllByRecursion (λ flag. is_flag d flag ≡ false) (flags_of es)
@@ -72,10 +73,6 @@ none_set d sound (flag ∷ flags) h = (λ i. leave_other flag sound (is_flag d f
 
 -- ---- what the map tells
 
-or_false : (b : Bool) → (b || false) ≡ b
-or_false true = refl
-or_false false = refl
-
 told_by : (d : HashAndSize) (sound b c : Bool) (o : Option Bool) (rest : Bool) → b ≡ c → (b ≡ true → rest ≡ false) → unwrap_or o false ≡ rest
     → unwrap_or (cond b (Some sound) o) false ≡ ((c && sound) || rest)
 told_by d sound true true o rest e none h = rw (none refl) (sym (or_false sound))
@@ -87,7 +84,7 @@ told_by d sound false true o rest e none h = absurd cc
 pub told : (d : HashAndSize) (entries : List Entry) → IsDistinct same (keys_of entries) → unwrap_or (lookup (same d) entries) false ≡ sound_in (flags_of entries) d
 told d [] distinct = refl
 told d (e ∷ es) distinct =
-    told_by d e.1 (same d e.0) (same e.0 d) (lookup (same d) es) (sound_in (flags_of es) d) (same_turned d e.0)
+    told_by d e.1 (same d e.0) (same e.0 d) (lookup (same d) es) (sound_in (flags_of es) d) (same_swap d e.0)
     (λ t. none_sound d (flags_of es) (after d e es distinct t))
     (told d es (IsDistinct-tail same e.0 (keys_of es) distinct))
 
@@ -104,7 +101,7 @@ pub inserted : (d : HashAndSize) (sound : Bool) (entries : List Entry) → list_
 inserted d sound [] none = refl
 inserted d sound (e ∷ es) none =
     let h = or_parts (is_flag d (flag_of e)) (list_any (is_flag d) (flags_of es)) none in
-    inserted_by d sound e es (same d e.0) (same_turned d e.0 ∙ h.0)
+    inserted_by d sound e es (same d e.0) (same_swap d e.0 ∙ h.0)
     ∙ ap (λ (flags : List Flag). flag_of e ∷ flags) (inserted d sound es h.1)
 
 removed_by : (d : HashAndSize) (e : Entry) (es : List Entry) (b c : Bool) → b ≡ c → (b ≡ true → other_flags d (flags_of es) ≡ flags_of es)
@@ -119,7 +116,7 @@ removed_by d e es false true e1 h rest = absurd cc
 pub removed : (d : HashAndSize) (entries : List Entry) → IsDistinct same (keys_of entries) → flags_of (remove_entry (same d) entries) ≡ other_flags d (flags_of entries)
 removed d [] distinct = refl
 removed d (e ∷ es) distinct =
-    removed_by d e es (same d e.0) (same e.0 d) (same_turned d e.0)
+    removed_by d e es (same d e.0) (same e.0 d) (same_swap d e.0)
     (λ t. all_others d (flags_of es) (after d e es distinct t))
     (removed d es (IsDistinct-tail same e.0 (keys_of es) distinct))
 
@@ -135,7 +132,7 @@ set_by d sound e es false true e1 h rest = absurd cc
 pub set_first : (d : HashAndSize) (sound : Bool) (entries : List Entry) → IsDistinct same (keys_of entries) → flags_of (set_value (same d) entries sound) ≡ set_flags d sound (flags_of entries)
 set_first d sound [] distinct = refl
 set_first d sound (e ∷ es) distinct =
-    set_by d sound e es (same d e.0) (same e.0 d) (same_turned d e.0)
+    set_by d sound e es (same d e.0) (same e.0 d) (same_swap d e.0)
     (λ t. none_set d sound (flags_of es) (after d e es distinct t))
     (set_first d sound es (IsDistinct-tail same e.0 (keys_of es) distinct))
 
@@ -147,7 +144,7 @@ missed : (d : HashAndSize) (entries : List Entry) → lookup (same d) entries �
 missed d [] e = tt
 missed d (first ∷ es) e =
     let h = missed_by (same d first.0) first.1 (lookup (same d) es) e in
-    (same_turned first.0 d ∙ h.0, missed d es h.1)
+    (same_swap first.0 d ∙ h.0, missed d es h.1)
 
 -- where a digest has no entry, no flag changes
 pub set_none : (d : HashAndSize) (sound : Bool) (entries : List Entry) → lookup (same d) entries ≡ None → flags_of entries ≡ set_flags d sound (flags_of entries)

@@ -2,21 +2,20 @@
 use Rattle.std.proofs.Common.{◌≡◌, ◌≢◌, ℕ, ◌+◌, ◌≤◌, Bool, true, false, cond, not, ◌&&◌, ◌||◌, List, [], ◌∷◌, map, refl, sym, ap, ◌∙◌, arith}
 use Rattle.std.specs.Prelude.{filter, slice_get, Some}
 use Rattle.std.specs.List.{AllByRecursion, list_any}
-use Rattle.std.proofs.lemmas.Bool.{not_from_false}
 use Rattle.std.proofs.lemmas.List.Sums.{sum_by-cons}
 use Rattle.std.proofs.lemmas.Map.Views.{any-filter_same}
 use Rattle.digest_types.specs.Name.{HashAndSize}
 use Rattle.store_core.specs.declared.state.Row.{Row}
 use Rattle.store_core.specs.State.{same, is_among, total, sizes}
 use Rattle.store_core.specs.Reach.{Linked, is_reached}
-use Rattle.store_core.proofs.Elements.{every_map, filter_all, filter_of_map}
+use Rattle.store_core.proofs.Elements.{every_map, filter_of_map, every_weaker}
 use Rattle.store_core.proofs.Passes.{not_among}
-use Rattle.store_core.proofs.Same.{equal_from_same, not_same_from_other, same_itself}
+use Rattle.store_core.proofs.Same.{equal_from_same, same_itself}
+use Rattle.store_core.proofs.Guarding.{same_swap}
 use Rattle.lease_table.specs.declared.hold.Hold.{Hold}
 use Rattle.lease_table.specs.Table as table
 use Rattle.lease_table.specs.Table.{Table, Distinct, DistinctDigests, guarded, is_blob, other_digests, roots, unguarded}
-use Rattle.lease_table.proofs.OrderLaws.{distinct_kept}
-use Rattle.lease_table.proofs.RowLaws.{every_weaker, same_turned}
+use Rattle.lease_table.proofs.OrderLaws.{distinct_kept, all_others}
 use Rattle.indexed_core.specs.Joined.{Flag, IsJoined, row_in, rows_in}
 use Rattle.indexed_core.specs.Parts.{held_bytes}
 use Rattle.indexed_core.proofs.ReachedRows.{first_in_order, rows_held}
@@ -26,10 +25,6 @@ use Rattle.indexed_core.proofs.ReachedRows.{first_in_order, rows_held}
 -- a digest is among those that are kept where it is kept
 pub among_kept : (keep : HashAndSize → Bool) (ds : List HashAndSize) (d : HashAndSize) → is_among (filter keep ds) d ≡ (keep d && is_among ds d)
 among_kept keep ds d = any-filter_same (same d) keep (keep d) (λ x e. ap keep (sym (equal_from_same d x e))) ds
-
--- digests of which none is this one stay
-pub all_others : (d : HashAndSize) (ds : List HashAndSize) → AllByRecursion (λ other. other ≢ d) ds → other_digests d ds ≡ ds
-all_others d ds h = filter_all (λ other. not (same other d)) ds (every_weaker (λ other. other ≢ d) (λ other. not (same other d) ≡ true) (λ other n. not_from_false (same other d) (not_same_from_other other d n)) ds h)
 
 -- ---- sums of sizes
 
@@ -44,7 +39,7 @@ others_by true d first ds e apart rest among =
     let stay : total (other_digests d ds) ≡ total ds = ap total (all_others d ds (every_weaker (λ other. other ≢ first) (λ other. other ≢ d) (λ other n q. n (q ∙ sym is)) ds apart)) in
     omega (arith, total_first first ds, size, stay)
 others_by false d first ds e apart rest among =
-    let later : is_among ds d ≡ true = ap (λ (b : Bool). b || is_among ds d) (sym (same_turned d first ∙ e)) ∙ among in
+    let later : is_among ds d ≡ true = ap (λ (b : Bool). b || is_among ds d) (sym (same_swap d first ∙ e)) ∙ among in
     let sum = rest later in
     omega (arith, total_first first ds, total_first first (other_digests d ds), sum)
 
@@ -105,7 +100,7 @@ names_distinct (blob ∷ there) distinct = (every_map (λ (other : Linked). othe
 -- a digest is among them where it has a blob
 pub names_among : (there : List Linked) (d : HashAndSize) → is_among (names there) d ≡ list_any (is_blob d) there
 names_among [] d = refl
-names_among (blob ∷ there) d = ap (λ (b : Bool). b || is_among (names there) d) (same_turned d blob.digest) ∙ ap (λ (b : Bool). same blob.digest d || b) (names_among there d)
+names_among (blob ∷ there) d = ap (λ (b : Bool). b || is_among (names there) d) (same_swap d blob.digest) ∙ ap (λ (b : Bool). same blob.digest d || b) (names_among there d)
 
 -- the sum over blobs is that of their digests
 pub names_total : (there : List Linked) → table.sizes there ≡ total (names there)

@@ -7,10 +7,11 @@ use Rattle.digest_types.specs.Name.{HashAndSize}
 use Rattle.store_core.specs.State.{same, is_among, total}
 use Rattle.store_core.proofs.Elements.{filter_all}
 use Rattle.store_core.proofs.ReachLaws.{every}
+use Rattle.store_core.proofs.FirstMentions.{neither}
+use Rattle.store_core.proofs.Guarding.{same_swap}
 use Rattle.lease_table.specs.Table.{DistinctDigests, other_digests}
-use Rattle.lease_table.proofs.OrderLaws.{apart}
-use Rattle.lease_table.proofs.RowLaws.{same_turned}
-use Rattle.indexed_core.proofs.HeldLaws.{all_others, total_others}
+use Rattle.lease_table.proofs.OrderLaws.{apart, all_others}
+use Rattle.indexed_core.proofs.HeldLaws.{total_others}
 
 -- ---- one digest
 
@@ -26,7 +27,7 @@ fewer_by : (b : Bool) (d first : HashAndSize) (ds : List HashAndSize) → same f
     → length (cond (not b) (first ∷ other_digests d ds) (other_digests d ds)) < suc (length ds)
 fewer_by true d first ds e rest among = let fit = others_fit d ds in omega arith
 fewer_by false d first ds e rest among =
-    let later : is_among ds d ≡ true = ap (λ (b : Bool). b || is_among ds d) (sym (same_turned d first ∙ e)) ∙ among in
+    let later : is_among ds d ≡ true = ap (λ (b : Bool). b || is_among ds d) (sym (same_swap d first ∙ e)) ∙ among in
     let less = rest later in
     omega arith
 
@@ -66,11 +67,6 @@ filter_both : {X : Type 0} (p q : X → Bool) (xs : List X) → filter p (filter
 filter_both p q [] = refl
 filter_both p q (x ∷ xs) = both_by p q x xs (q x) refl (filter_both p q xs)
 
-not_either : (a b : Bool) → (not a && not b) ≡ not (a || (b || false))
-not_either true b = refl
-not_either false true = refl
-not_either false false = refl
-
 among_more : (gone : List HashAndSize) (i : ℕ) (d x : HashAndSize) → i < length gone → d ≡ get_or gone i d → is_among (take (i + 1) gone) x ≡ (is_among (take i gone) x || (same x d || false))
 among_more gone i d x lt here =
     ap (λ (ds : List HashAndSize). is_among ds x) (take_more gone i d lt ∙ ap (λ (e : HashAndSize). take i gone ++ e ∷ []) (sym here))
@@ -85,4 +81,4 @@ pub left_more : {X : Type 0} (key : X → HashAndSize) (gone : List HashAndSize)
     → filter (λ x. not (same (key x) d)) (filter (λ x. not (is_among (take i gone) (key x))) xs) ≡ filter (λ x. not (is_among (take (i + 1) gone) (key x))) xs
 left_more key gone i d xs lt here =
     filter_both (λ x. not (same (key x) d)) (λ x. not (is_among (take i gone) (key x))) xs
-    ∙ ap (λ (test : _ → Bool). filter test xs) (λ j x. (not_either (is_among (take i gone) (key x)) (same (key x) d) ∙ ap not (sym (among_more gone i d (key x) lt here))) j)
+    ∙ ap (λ (test : _ → Bool). filter test xs) (λ j x. (neither (is_among (take i gone) (key x)) (same (key x) d) ∙ ap not (sym (among_more gone i d (key x) lt here))) j)

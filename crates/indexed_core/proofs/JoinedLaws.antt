@@ -15,19 +15,15 @@ use Rattle.store_core.specs.State.{same, is_of, row_of, others, is_sound, is_amo
 use Rattle.store_core.specs.Reach.{Linked}
 use Rattle.store_core.specs.Standing.{is_plain}
 use Rattle.store_core.specs.Step.{touched, damaged}
-use Rattle.store_core.proofs.Elements.{filter_of_map}
+use Rattle.store_core.proofs.Elements.{filter_of_map, every_weaker}
 use Rattle.store_core.proofs.Same.{equal_from_same, not_same_from_other}
+use Rattle.store_core.proofs.Guarding.{same_swap}
 use Rattle.lease_table.specs.Table.{is_blob, Distinct, other_digests, DistinctDigests}
-use Rattle.lease_table.proofs.RowLaws.{same_turned, every_weaker}
-use Rattle.lease_table.proofs.MarkLaws.{others_fail}
+use Rattle.lease_table.proofs.MarkLaws.{others_fail, or_false}
 use Rattle.lease_table.proofs.OrderLaws.{distinct_kept, distinct_more, others_differ}
 use Rattle.indexed_core.specs.Joined.{Flag, is_flag, sound_in, edges_if, edges_in, row_in, rows_in, IsJoined}
 use Rattle.indexed_core.specs.Parts.{has_row}
 use Rattle.indexed_core.proofs.FlagLaws.{set_flags, set_has, set_same, set_other, sound_has}
-
-or_false : (b : Bool) → (b || false) ≡ b
-or_false true = refl
-or_false false = refl
 
 and_false : (b : Bool) → (b && false) ≡ false
 and_false true = refl
@@ -38,7 +34,7 @@ and_false false = refl
 -- the digests of the order have the rows
 pub row_among : (order : List HashAndSize) (there : List Linked) (flags : List Flag) (d : HashAndSize) → has_row (rows_in order there flags) d ≡ is_among order d
 row_among [] there flags d = refl
-row_among (x ∷ order) there flags d = (λ i. same_turned x d i || row_among order there flags d i)
+row_among (x ∷ order) there flags d = (λ i. same_swap x d i || row_among order there flags d i)
 
 absorbed : (m r : Bool) → (r || (m && r)) ≡ r
 absorbed m true = refl
@@ -56,7 +52,7 @@ pub row_passes : (q : Row → Bool) (order : List HashAndSize) (there : List Lin
     → list_any (λ row. is_of d row && q row) (rows_in order there flags) ≡ (is_among order d && q (row_in there flags d))
 row_passes q [] there flags d = refl
 row_passes q (x ∷ order) there flags d =
-    pick_by (same x d) (same d x) (q (row_in there flags x)) (q (row_in there flags d)) _ (is_among order d) (same_turned x d)
+    pick_by (same x d) (same d x) (q (row_in there flags x)) (q (row_in there flags d)) _ (is_among order d) (same_swap x d)
     (λ t. ap (λ (y : HashAndSize). q (row_in there flags y)) (equal_from_same x d t))
     (row_passes q order there flags d)
 
@@ -71,7 +67,7 @@ found_by there flags d x false true m o e is h has = absurd cc
 pub row_found : (order : List HashAndSize) (there : List Linked) (flags : List Flag) (d : HashAndSize) → is_among order d ≡ true → row_of d (rows_in order there flags) ≡ Some (row_in there flags d)
 row_found [] there flags d has = absurd cc
 row_found (x ∷ order) there flags d has =
-    found_by there flags d x (same x d) (same d x) (is_among order d) _ (same_turned x d) (equal_from_same x d) (row_found order there flags d) has
+    found_by there flags d x (same x d) (same d x) (is_among order d) _ (same_swap x d) (equal_from_same x d) (row_found order there flags d) has
 
 -- ---- what joined parts tell
 
@@ -146,7 +142,7 @@ one_by d x kept false true m e is none h has = absurd cc
 pub one_same : (d : HashAndSize) (ds : List HashAndSize) → DistinctDigests ds → is_among ds d ≡ true → filter (λ other. same other d) ds ≡ d ∷ []
 one_same d [] distinct has = absurd cc
 one_same d (x ∷ ds) distinct has =
-    one_by d x (filter (λ other. same other d) ds) (same x d) (same d x) (is_among ds d) (same_turned x d) (equal_from_same x d)
+    one_by d x (filter (λ other. same other d) ds) (same x d) (same d x) (is_among ds d) (same_swap x d) (equal_from_same x d)
     (λ t. none_same d ds (every_weaker (λ other. other ≢ x) (λ other. other ≢ d) (λ other n q. n (q ∙ sym (equal_from_same x d t))) ds distinct.0))
     (one_same d ds distinct.1) has
 

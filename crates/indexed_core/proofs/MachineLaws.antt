@@ -1,5 +1,5 @@
 -- A state by its rows and its holds, and rows that go one after the other.
-use Rattle.std.proofs.Common.{◌≡◌, ◌≢◌, ℕ, zero, suc, ◌+◌, ◌-◌, ◌<◌, ◌≤◌, Bool, true, false, cond, not, List, [], ◌∷◌, ◌++◌, length, take, drop, add-one, Some, inl, inr, refl, sym, ap, subst, ◌∙◌, arith}
+use Rattle.std.proofs.Common.{◌≡◌, ℕ, zero, suc, ◌+◌, ◌-◌, ◌<◌, ◌≤◌, Bool, true, false, cond, not, List, [], ◌∷◌, ◌++◌, length, take, drop, add-one, Some, inl, inr, refl, sym, ap, subst, ◌∙◌, arith}
 use Rattle.std.specs.Prelude.{filter, slice_get, ◌||◌, ◌&&◌}
 use Rattle.std.specs.List.{AllByRecursion}
 use Rattle.std.proofs.Math.Seq.{take-suc, drop-cons}
@@ -18,12 +18,13 @@ use Rattle.store_core.specs.State.{State, Distinct, same, is_among, is_of, other
 use Rattle.store_core.specs.Reach.{Linked, blobs, as_file, as_dir, reaches, is_reached}
 use Rattle.store_core.specs.Pass.{is_guarded, guarded, unguarded, frees, victims, without, pass}
 use Rattle.store_core.specs.Step.{passed, usage}
-use Rattle.store_core.proofs.Elements.{every_filter, every_has, every_map, every_take, filter_all, filter_of_map, filter_same_on}
+use Rattle.store_core.proofs.Elements.{every_has, filter_all, filter_of_map, filter_same_on}
 use Rattle.store_core.proofs.Least.{least_bound}
-use Rattle.store_core.proofs.Passes.{without_more, firsts_of, not_among, blobs_without, victims_fail}
+use Rattle.store_core.proofs.Passes.{without_more, firsts_of, blobs_without, victims_fail, other_digests}
 use Rattle.store_core.proofs.ReachLaws.{removal}
 use Rattle.store_core.proofs.RowLaws.{Differs}
 use Rattle.store_core.proofs.Same.{same_from_equal}
+use Rattle.store_core.proofs.FirstMentions.{filter_both}
 use Rattle.lease_table.specs.declared.hold.Hold.{Hold}
 use Rattle.lease_table.specs.Table.{has_id, roots}
 use Rattle.indexed_core.specs.Parts.{Parts, is_held, held_bytes, free, hold_of, holds_of}
@@ -33,17 +34,6 @@ use Rattle.indexed_core.specs.Removal.{removed}
 
 filter_same : {X : Type 0} (p q : X → Bool) (xs : List X) → ((x : X) → p x ≡ q x) → filter p xs ≡ filter q xs
 filter_same p q xs h = filter_same_on p q xs (every_has (λ x. p x ≡ q x) xs (λ x has. h x))
-
-both_by : {X : Type 0} (p q : X → Bool) (x : X) (a b : Bool) (xs : List X) → p x ≡ a → q x ≡ b → filter p (filter q xs) ≡ filter (λ y. p y && q y) xs
-    → filter p (cond b (x ∷ filter q xs) (filter q xs)) ≡ cond (a && b) (x ∷ filter (λ y. p y && q y) xs) (filter (λ y. p y && q y) xs)
-both_by p q x true true xs e f h = cond-true (p x) (x ∷ filter p (filter q xs)) (filter p (filter q xs)) e ∙ ap (λ rest. x ∷ rest) h
-both_by p q x false true xs e f h = cond-false (p x) (x ∷ filter p (filter q xs)) (filter p (filter q xs)) e ∙ h
-both_by p q x true false xs e f h = h
-both_by p q x false false xs e f h = h
-
-filter_both : {X : Type 0} (p q : X → Bool) (xs : List X) → filter p (filter q xs) ≡ filter (λ y. p y && q y) xs
-filter_both p q [] = refl
-filter_both p q (x ∷ xs) = both_by p q x (p x) (q x) xs refl refl (filter_both p q xs)
 
 -- ---- the holds are the leases without their owners
 
@@ -71,12 +61,6 @@ pub held_less : (id : ℕ) (leases : List Lease) (holds : List Hold) → holds �
 held_less id leases holds e = ap (filter (λ hold. not (has_id id hold))) e ∙ filter_of_map hold_of (λ hold. not (has_id id hold)) leases
 
 -- ---- the first k of some digests
-
--- a digest that no row has isn't among theirs
-other_digests : (p : HashAndSize → Bool) (k : ℕ) (row : Row) (rows : List Row) → AllByRecursion (Differs row) rows → is_among (firsts_of p k rows) row.digest ≡ false
-other_digests p k row rows h =
-    not_among (firsts_of p k rows) row.digest
-    (every_take (λ x. x ≢ row.digest) k (filter p (digests rows)) (every_filter (λ x. x ≢ row.digest) p (digests rows) (every_map (Differs row) (λ x. x ≢ row.digest) (λ (r : Row). r.digest) (λ r n. n) rows h)))
 
 -- a first row whose digest isn't among them stays, and one whose digest is goes
 first_stays : (ds : List HashAndSize) (row : Row) (rows : List Row) → is_among ds row.digest ≡ false → without ds (row ∷ rows) ≡ row ∷ without ds rows

@@ -2,9 +2,9 @@
 use Rattle.std.proofs.Common.{◌≡◌, ◌≢◌, ℕ, zero, suc, ◌+◌, ◌-◌, ◌≤◌, Bool, true, false, cond, not, min, List, [], ◌∷◌, ◌++◌, length, length-append, take, Option, Some, None, inl, inr, refl, sym, ap, subst, ◌∙◌, arith}
 use Rattle.std.specs.Prelude.{nat_lt, ◌||◌, ◌&&◌}
 use Rattle.std.specs.List.{AllByRecursion}
-use Rattle.std.proofs.lemmas.Bool.{cases_Bool, cond-true, not_from_false}
+use Rattle.std.proofs.lemmas.Bool.{cases_Bool, cond-true}
 use Rattle.std.proofs.lemmas.Map.Views.{any-filter_same}
-use Rattle.std.proofs.lemmas.List.Elements.{filter-append, All-from_recursion}
+use Rattle.std.proofs.lemmas.List.Elements.{All-from_recursion}
 use Rattle.std.proofs.lemmas.List.Folds.{list_any-append, list_any_none}
 use Rattle.std.proofs.lemmas.List.Sums.{sum_by_push}
 use Rattle.digest_types.specs.Name.{HashAndSize}
@@ -16,7 +16,7 @@ use Rattle.store_core.specs.State.{State, IsKept, Distinct, is_empty, same, is_a
 use Rattle.store_core.specs.Pass.{is_guarded, guarded, unguarded, victims, gone, without}
 use Rattle.store_core.specs.Step.{is_open, put_over, put, served, step}
 use Rattle.store_core.specs.declared.event.Event.TheVariants as events
-use Rattle.store_core.proofs.Changes.{Adds, added_keeps, added_is, new_row, room_of, put_new_is}
+use Rattle.store_core.proofs.Changes.{Adds, added_keeps, added_is, new_row, room_of, put_new_is, without_last}
 use Rattle.store_core.proofs.Elements.{every_filter, every_has, every_map, every_take, none_pass, find_none, find_missed, has_from_map}
 use Rattle.store_core.proofs.Passes.{not_among}
 use Rattle.store_core.proofs.ReachLaws.{any_passes}
@@ -92,11 +92,6 @@ first_counts s ds f v =
     subst (λ (es : List HashAndSize). length (without es s.rows) + length es ≡ length s.rows) (sym f.are) (counts (λ d. not (is_guarded s d)) f.count s.rows v)
 
 -- ---- a blob with no row
-
-pub without_last : (ds : List HashAndSize) (rows : List Row) (row : Row) → is_among ds row.digest ≡ false → without ds (rows ++ row ∷ []) ≡ without ds rows ++ row ∷ []
-without_last ds rows row other =
-    filter-append (λ (r : Row). not (is_among ds r.digest)) rows (row ∷ [])
-    ∙ ap (λ (xs : List Row). without ds rows ++ xs) (cond-true (not (is_among ds row.digest)) (row ∷ []) [] (not_from_false (is_among ds row.digest) other))
 
 -- a blob with no row whose bytes fit beside the guarded ones, and the digests that go for it
 pub record Fits (s : State) (d : HashAndSize) (ds : List HashAndSize) : Type 0 where

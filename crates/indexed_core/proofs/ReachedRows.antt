@@ -13,16 +13,13 @@ use Rattle.store_core.proofs.Elements.{every_has, every_contains, filter_same_on
 use Rattle.store_core.proofs.ReachLaws.{any_passes, order_changes_nothing, same_tests, some_passes, within_cases, within_next, within_root}
 use Rattle.store_core.proofs.ReachedLaws.{reached_members, reached_sorted}
 use Rattle.store_core.proofs.Same.{equal_from_same, not_same_from_other, same_from_equal, same_itself}
+use Rattle.store_core.proofs.Passes.{among_has}
 use Rattle.lease_table.specs.declared.hold.Hold.{Hold}
 use Rattle.lease_table.specs.Table.{Table, Distinct, is_blob, is_guarded, roots, unguarded}
 use Rattle.indexed_core.specs.Joined.{Flag, IsJoined, edges_if, edges_in, rows_in}
 use Rattle.indexed_core.specs.Parts.{free, is_held}
 
 -- ---- digests
-
--- a digest is among those that it is an element of, and back
-pub among_from_Contains : (ds : List HashAndSize) (d : HashAndSize) → Contains ds d → is_among ds d ≡ true
-among_from_Contains ds d has = any_passes (same d) ds d has (same_itself d)
 
 pub Contains_from_among : (ds : List HashAndSize) (d : HashAndSize) → is_among ds d ≡ true → Contains ds d
 Contains_from_among ds d e =
@@ -119,7 +116,7 @@ module _ (order : List HashAndSize) (there : List Linked) (flags : List Flag) (u
 
   of_digest : (d : HashAndSize) → Contains order d → Contains there (blob_in there d)
   of_digest d has =
-      let p = some_passes (is_blob d) there (joined.has_blobs d ∙ among_from_Contains order d has) in
+      let p = some_passes (is_blob d) there (joined.has_blobs d ∙ among_has order d has) in
       let is : p.element.digest ≡ d = equal_from_same p.element.digest d p.passes in
       subst (λ (b : Linked). Contains there b) (sym (blob_there there p.element joined.distinct_blobs p.is_there) ∙ ap (blob_in there) is) p.is_there
 
@@ -148,7 +145,7 @@ module _ (order : List HashAndSize) (there : List Linked) (flags : List Flag) (u
   unguarded_in : (holds : List Hold) (d : HashAndSize) → Contains order d
       → not (is_guarded (record { blobs = there; leases = holds }) d) ≡ not (is_held (record { rows = rows_in order there flags; holds = holds }) d)
   unguarded_in holds d has =
-      ap (λ (b : Bool). not (b && is_reached there (roots holds) d)) (joined.has_blobs d ∙ among_from_Contains order d has)
+      ap (λ (b : Bool). not (b && is_reached there (roots holds) d)) (joined.has_blobs d ∙ among_has order d has)
       ∙ ap not (sym (rows_held holds d))
 
   -- the digests of rows that aren't guarded are the free ones
@@ -166,4 +163,4 @@ first_has (first ∷ ds) d e = subst (λ (x : HashAndSize). Contains (first ∷ 
 
 -- it is in the order
 pub first_in_order : (t : Table) (order : List HashAndSize) (d : HashAndSize) → slice_get (unguarded t order) 0 ≡ Some d → is_among order d ≡ true
-first_in_order t order d e = among_from_Contains order d (has_from_filter (λ x. not (is_guarded t x)) order d (first_has (unguarded t order) d e)).0
+first_in_order t order d e = among_has order d (has_from_filter (λ x. not (is_guarded t x)) order d (first_has (unguarded t order) d e)).0

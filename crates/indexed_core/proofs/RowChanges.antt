@@ -17,15 +17,18 @@ use Rattle.store_core.specs.Reach.{Linked}
 use Rattle.store_core.proofs.Elements.{every_weaker, filter_of_map, find_kept}
 use Rattle.store_core.proofs.ReachLaws.{every}
 use Rattle.store_core.proofs.Same.{equal_from_same, not_same_from_other, same_itself}
+use Rattle.store_core.proofs.Guarding.{same_swap}
+use Rattle.store_core.proofs.Changes.{new_row}
 use Rattle.lease_table.specs.declared.hold.Hold.{Hold}
 use Rattle.lease_table.specs.Table as table
 use Rattle.lease_table.specs.Table.{is_blob, other_digests}
 use Rattle.lease_table.proofs.OrderLaws.{apart, distinct_kept, distinct_more}
 use Rattle.lease_table.proofs.RowLaws as blob_laws
-use Rattle.lease_table.proofs.RowLaws.{distinct_filter, distinct_push, same_turned}
+use Rattle.lease_table.proofs.RowLaws.{distinct_filter, distinct_push}
 use Rattle.indexed_core.specs.Joined.{Flag, IsJoined, edges_if, edges_in, is_flag, row_in, rows_in, sound_in}
 use Rattle.indexed_core.specs.Parts.{Parts, has_row}
 use Rattle.indexed_core.proofs.HeldLaws.{among_kept, kept_total, rows_total, total_kept}
+use Rattle.indexed_core.proofs.JoinedLaws.{row_among}
 
 -- ---- rows that are kept
 
@@ -84,9 +87,6 @@ blob_of d edges = record { digest = d; edges = edges }
 abbrev pub flag_of : HashAndSize → Flag
 flag_of d = record { digest = d; sound = true }
 
-abbrev pub new_row : HashAndSize → Option (List Edge) → Row
-new_row d edges = record { digest = d; edges = edges; sound = true }
-
 find_other : {X : Type 0} (p : X → Bool) (xs : List X) (x : X) → p x ≡ false → find p (xs ++ x ∷ []) ≡ find p xs
 find_other p [] x e = cond-false (p x) (Some x) None e
 find_other p (first ∷ xs) x e = ap (λ o. cond (p first) (Some first) o) (find_other p xs x e)
@@ -132,7 +132,7 @@ rows_more order there flags d edges none no_blob =
     ∙ ap (λ (r : Row). rows_in order there flags ++ r ∷ []) (own_row there flags d edges no_blob)
 
 any_more : (e d : HashAndSize) (a b : Bool) → a ≡ b → (a || (same d e || false)) ≡ (b || (same e d || false))
-any_more e d a b h = ap (λ (x : Bool). x || (same d e || false)) h ∙ ap (λ (x : Bool). b || (x || false)) (same_turned d e)
+any_more e d a b h = ap (λ (x : Bool). x || (same d e || false)) h ∙ ap (λ (x : Bool). b || (x || false)) (same_swap d e)
 
 -- what goes together does so with one more
 joined_more : (order : List HashAndSize) (there : List Linked) (flags : List Flag) (used : ℕ) → IsJoined order there flags used → (d : HashAndSize) (edges : Option (List Edge)) → is_among order d ≡ false → used + d.size ≤ 2 ^ 62
@@ -223,19 +223,14 @@ undone test (first ∷ xs) x none e =
     ∙ ap (λ (ys : List _). first ∷ ys) (undone test xs x h.1 e)
 
 pub order_undone : (order : List HashAndSize) (d : HashAndSize) → is_among order d ≡ false → other_digests d (order ++ d ∷ []) ≡ order
-order_undone order d none = undone (λ other. same other d) order d (ap (λ (test : HashAndSize → Bool). list_any test order) (λ i x. same_turned x d i) ∙ none) (same_itself d)
+order_undone order d none = undone (λ other. same other d) order d (ap (λ (test : HashAndSize → Bool). list_any test order) (λ i x. same_swap x d i) ∙ none) (same_itself d)
 
 pub flags_undone : (flags : List Flag) (d : HashAndSize) → list_any (is_flag d) flags ≡ false → filter (λ flag. not (is_flag d flag)) (flags ++ flag_of d ∷ []) ≡ flags
 flags_undone flags d none = undone (is_flag d) flags (flag_of d) none (same_itself d)
 
 -- ---- rows that are there
 
--- a digest has a row where it is in the order
-pub rows_among : (order : List HashAndSize) (there : List Linked) (flags : List Flag) (d : HashAndSize) → has_row (rows_in order there flags) d ≡ is_among order d
-rows_among [] there flags d = refl
-rows_among (first ∷ order) there flags d = ap (λ (b : Bool). b || has_row (rows_in order there flags) d) (same_turned first d) ∙ ap (λ (b : Bool). same d first || b) (rows_among order there flags d)
-
 -- one with no row isn't in the order
 pub not_in_order : (order : List HashAndSize) (there : List Linked) (flags : List Flag) (holds : List Hold) (now : Parts) (d : HashAndSize) → record { rows = rows_in order there flags; holds = holds } ≡ now → has_row now.rows d ≡ false
     → is_among order d ≡ false
-not_in_order order there flags holds now d is none = sym (rows_among order there flags d) ∙ ap (λ (p : Parts). has_row p.rows d) is ∙ none
+not_in_order order there flags holds now d is none = sym (row_among order there flags d) ∙ ap (λ (p : Parts). has_row p.rows d) is ∙ none

@@ -1,7 +1,6 @@
 //! Which blobs are there.
 
 ghost use Rattle.std.specs.Prelude.{◌≡◌, IfOk};
-ghost use Rattle.store_core.specs.State.{is_empty};
 ghost use Rattle.store_core.specs.Step.{is_here, missing, touched_all};
 
 use crate::index::Index;
@@ -9,14 +8,7 @@ use digest_types::Digest;
 use indexmap::IndexSet;
 use proto_wire::OutOfMemory;
 use std::alloc::Global;
-
-/// Whether this is the digest of no bytes.
-#[tactic(auto, using(store_core::proofs::Same::filled_from_size))]
-pub(crate) fn is_empty_blob(digest: &Digest) -> bool
-    ensures { result ≡ is_empty digest.now }
-{
-    digest.size == 0 && *digest == Digest::empty()
-}
+use store_core::is_empty_blob;
 
 /// Whether a blob is there.
 pub(crate) fn is_here(index: &Index, digest: &Digest) -> bool

@@ -6,9 +6,7 @@
 mod asking;
 mod flags;
 mod index;
-mod leases;
 mod machine;
-mod owners;
 mod standing;
 
 pub use machine::IndexedCore;

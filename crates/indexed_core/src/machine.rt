@@ -11,17 +11,17 @@ ghost use Rattle.indexed_core.specs.Parts.{has_row};
 ghost use Rattle.indexed_core.specs.Removal.{removed, PutsRow};
 ghost use Rattle.indexed_core.specs.Events.{moves_bodies, takes_memory};
 
-use crate::asking::{is_empty_blob, is_here, missing, touch_all};
+use crate::asking::{is_here, missing, touch_all};
 use crate::index::Index;
-use crate::leases::{holds, own_lease, release};
-use crate::owners::{is_among, leave};
 use crate::standing::standing;
 use digest_types::{Digest, Digests};
 use directory_canon::{Edge, Edges};
 use proto_wire::OutOfMemory;
 use std::alloc::Global;
 use std::marker::Model;
-use store_core::{Event, Lease, Marks, Reply, Usage};
+use store_core::leases::{holds, own_lease, release};
+use store_core::owners::{is_among, leave};
+use store_core::{Event, Lease, Marks, Reply, Usage, is_empty_blob};
 
 /// The store's rules over hashed indexes.
 #[derive(Debug, Drop)]

@@ -9,23 +9,10 @@ ghost use Rattle.lease_table.specs.Table.{has_id, roots};
 
 use crate::index::Index;
 use digest_types::{Digest, Digests};
-use directory_canon::{Edge, Kind};
+use directory_canon::Edge;
 use proto_wire::OutOfMemory;
 use std::alloc::Global;
-use store_core::{Standing, digests_of};
-
-/// How many pairs besides the root are at most reached.
-const MAX_PAIRS: usize = 1_000_000;
-
-/// At how many steps from the root a Directory is too deep.
-const MAX_STEPS: u64 = 128;
-
-/// Whether a pair is of kind Dir.
-fn is_dir(pair: &Edge) -> bool
-    ensures { result ≡ is_dir pair.now }
-{
-    pair.kind == Kind::Dir
-}
+use store_core::{MAX_PAIRS, MAX_STEPS, Standing, counted, digests_of, is_dir};
 
 /// The first of ascending pairs that is of kind Dir and not that of a Directory.
 fn not_directory(index: &Index, pairs: &[Edge]) -> Option<Digest>
@@ -35,15 +22,6 @@ fn not_directory(index: &Index, pairs: &[Edge]) -> Option<Digest>
         .iter()
         .find(|pair| is_dir(pair) && index.is_plain(&pair.digest))
         .map(|pair| pair.digest)
-}
-
-/// The pairs that count: all of them, or without `files` those of kind Dir.
-fn counted(alloc: Global, pairs: &[Edge], files: bool) -> Result<Vec<Edge>, OutOfMemory>
-    ensures { IfOk result (λ v. v.items ≡ counted files pairs.now) }
-{
-    let mut counted = Vec::from_slice(alloc, pairs)?;
-    counted.retain(|pair| files || is_dir(pair));
-    Ok(counted)
 }
 
 /// Those of the pairs that count that have no sound row.

@@ -16,7 +16,7 @@ use Rattle.lease_table.specs.Table.{is_blob, roots, Distinct}
 use Rattle.lease_table.specs.Marking.{marked, of_kind, is_target, is_linked}
 use Rattle.lease_table.proofs.RowLaws.{nowhere}
 
-or_false : (b : Bool) → (b || false) ≡ b
+pub or_false : (b : Bool) → (b || false) ≡ b
 or_false true = refl
 or_false false = refl
 

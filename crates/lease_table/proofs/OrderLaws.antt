@@ -10,8 +10,10 @@ use Rattle.std.proofs.lemmas.Slice.{put_mid-rotated}
 use Rattle.digest_types.specs.Name.{HashAndSize}
 use Rattle.store_core.specs.State.{same, is_among}
 use Rattle.store_core.proofs.Same.{equal_from_same, not_same_from_other, other_from_not_same}
+use Rattle.store_core.proofs.Elements.{every_weaker, every_filter, every_push}
+use Rattle.store_core.proofs.Guarding.{same_swap}
 use Rattle.lease_table.specs.Table.{Table, is_guarded, unguarded, other_digests, DistinctDigests}
-use Rattle.lease_table.proofs.RowLaws.{every_filter, every_push, every_weaker, same_turned, nowhere, none_any}
+use Rattle.lease_table.proofs.RowLaws.{nowhere, none_any}
 
 -- ---- no digest stands twice
 
@@ -60,7 +62,7 @@ leave_out d rest true e = refl
 leave_out d rest false e = absurd cc
 
 -- where all differ from it, all stay
-all_others : (d : HashAndSize) (ds : List HashAndSize) → AllByRecursion (λ other. other ≢ d) ds → other_digests d ds ≡ ds
+pub all_others : (d : HashAndSize) (ds : List HashAndSize) → AllByRecursion (λ other. other ≢ d) ds → other_digests d ds ≡ ds
 all_others d [] h = refl
 all_others d (first ∷ ds) h = keep_other first (other_digests d ds) (same first d) (not_same_from_other first d h.0) ∙ ap (λ (rest : List HashAndSize). first ∷ rest) (all_others d ds h.1)
 
@@ -71,9 +73,9 @@ others_at d [] i x distinct lt at before = absurd (omega arith)
 others_at d (first ∷ ds) zero x distinct lt at before =
     let is : d ≡ first = equal_from_same d first at in
     let differ = every_weaker (Differs first) (λ other. other ≢ d) (λ other n q. n (q ∙ is)) ds distinct.0 in
-    leave_out first (other_digests d ds) (same first d) (same_turned first d ∙ at) ∙ all_others d ds differ
+    leave_out first (other_digests d ds) (same first d) (same_swap first d ∙ at) ∙ all_others d ds differ
 others_at d (first ∷ ds) (suc i) x distinct lt at before =
-    keep_other first (other_digests d ds) (same first d) (same_turned first d ∙ before 0 (omega arith))
+    keep_other first (other_digests d ds) (same first d) (same_swap first d ∙ before 0 (omega arith))
     ∙ ap (λ (rest : List HashAndSize). first ∷ rest) (others_at d ds i x distinct.1 (omega arith) at (λ k h. before (suc k) (omega arith)))
 
 -- a digest that is turned to the end

@@ -6,7 +6,6 @@ use Rattle.std.specs.List.Sorted.{IsStrictlySortedBy}
 use Rattle.std.specs.Cmp.Lexicographic.{pointwise}
 use Rattle.std.proofs.lemmas.Bool.{and_parts, and_from, false_from_ne_true, true_from_ne_false, not-true, not_from_false}
 use Rattle.std.proofs.lemmas.List.{drop_more, append_assoc}
-use Rattle.std.proofs.lemmas.List.Elements.{All-contains, filter_passes}
 use Rattle.std.proofs.lemmas.List.Folds.{list_any-append}
 use Rattle.std.proofs.lemmas.List.Kept.{IsStrictlySortedBy-filter}
 use Rattle.directory_canon.specs.declared.node.Edge.{Edge}
@@ -15,6 +14,7 @@ use Rattle.store_core.specs.Marks.{near}
 use Rattle.store_core.specs.Reach.{Linked, as_dir, edges_of, is_dir, is_pair, links_to, pair_cmp, within, reaches, is_nearer, reached, is_deep}
 use Rattle.store_core.proofs.AscendingLaws.{IsEquality, ascending_members, ascending_sorted, pair_exact, equal_sorted}
 use Rattle.store_core.proofs.ReachLaws.{same_tests, some_passes, any_passes, pair_from_Contains, Contains_from_pair, Contains_filter, Contains_from_filter, within_cases, stable, reaches_root, reaches_next}
+use Rattle.store_core.proofs.ReachedLaws.{kept_passes}
 use Rattle.lease_table.specs.Marking.{links_from, marked_edges, pairs_within, AreNearer}
 use Rattle.lease_table.proofs.MarkLaws.{no_row, at_place, links_are}
 use Rattle.lease_table.proofs.NearLaws.{near_all, links_by}
@@ -163,9 +163,6 @@ lists_equal eq equality (x ∷ xs) (y ∷ ys) e =
     cc
 
 -- ---- what is deep
-
-kept_passes : {X : Type 0} (test : X → Bool) (xs : List X) (x : X) → Contains (filter test xs) x → test x ≡ true
-kept_passes test xs x h = All-contains (λ y. test y ≡ true) (filter test xs) x (filter_passes test xs) h
 
 near_by : (dir near : Bool) → dir ≡ true → (dir && not near) ≡ false → near ≡ true
 near_by true true e f = refl

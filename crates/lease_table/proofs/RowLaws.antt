@@ -5,14 +5,15 @@ use Rattle.std.specs.List.{AllByRecursion, list_any, position_or_len}
 use Rattle.std.specs.Map.{keys_of, values_of, remove_entry}
 use Rattle.std.proofs.lemmas.Bool.{ltb-false, or_parts}
 use Rattle.std.proofs.lemmas.Option.{same_Some}
-use Rattle.std.proofs.lemmas.List.Elements.{All-filter, All-from_recursion, recursion_from_All, All-push}
 use Rattle.digest_types.specs.Name.{HashAndSize}
 use Rattle.directory_canon.specs.declared.node.Edge.{Edge}
 use Rattle.indexmap.specs.IndexMap.{insert_entry}
 use Rattle.store_core.specs.State.{same}
 use Rattle.store_core.specs.Reach.{Linked}
-use Rattle.store_core.proofs.Same.{equal_from_same, same_from_equal, not_same_from_other, other_from_not_same}
-use Rattle.store_core.proofs.ReachLaws.{same_tests}
+use Rattle.store_core.proofs.Same.{equal_from_same, not_same_from_other, other_from_not_same}
+use Rattle.store_core.proofs.Elements.{every_weaker, every_filter, every_push}
+use Rattle.store_core.proofs.Guarding.{same_swap}
+use Rattle.store_core.proofs.UseOrder.{no_place}
 use Rattle.lease_table.specs.Table.{is_blob, others, Distinct}
 use Rattle.lease_table.specs.Rows.{linked}
 
@@ -25,16 +26,6 @@ abbrev pub row_of : Entry → Linked
 row_of entry = record { digest = entry.0; edges = entry.1 }
 
 -- ---- what holds of each element, by recursion
-
-pub every_filter : {X : Type 0} (P : X → Type 0) (p : X → Bool) (xs : List X) → AllByRecursion P xs → AllByRecursion P (filter p xs)
-every_filter P p xs h = recursion_from_All P (filter p xs) (All-filter p P xs (All-from_recursion P xs h))
-
-pub every_push : {X : Type 0} (P : X → Type 0) (xs : List X) (x : X) → AllByRecursion P xs → P x → AllByRecursion P (xs ++ x ∷ [])
-every_push P xs x h q = recursion_from_All P (xs ++ x ∷ []) (All-push P xs x (All-from_recursion P xs h) q)
-
-pub every_weaker : {X : Type 0} (P Q : X → Type 0) → ((x : X) → P x → Q x) → (xs : List X) → AllByRecursion P xs → AllByRecursion Q xs
-every_weaker P Q f [] h = tt
-every_weaker P Q f (x ∷ xs) h = (f x h.0, every_weaker P Q f xs h.1)
 
 -- ---- no digest has two rows
 
@@ -65,12 +56,6 @@ absent d (row ∷ rows) e =
 
 -- ---- places
 
--- which of two digests comes first changes nothing
-pub same_turned : (a b : HashAndSize) → same a b ≡ same b a
-same_turned a b = same_tests (same a b) (same b a)
-    (λ e. same_from_equal b a (sym (equal_from_same a b e)))
-    (λ e. same_from_equal a b (sym (equal_from_same b a e)))
-
 length_linked : (entries : List Entry) → length (linked entries) ≡ length entries
 length_linked [] = refl
 length_linked (e ∷ es) = ap suc (length_linked es)
@@ -85,7 +70,7 @@ place_by false c m n e h = rw (← e) (ap (λ (k : ℕ). 1 + k) h)
 
 place_or_len : (d : HashAndSize) (entries : List Entry) → position_or_len (same d) (keys_of entries) ≡ position_or_len (is_blob d) (linked entries)
 place_or_len d [] = refl
-place_or_len d (e ∷ es) = place_by (same d e.0) (same e.0 d) _ _ (same_turned d e.0) (place_or_len d es)
+place_or_len d (e ∷ es) = place_by (same d e.0) (same e.0 d) _ _ (same_swap d e.0) (place_or_len d es)
 
 -- the place of a digest among the keys is its row's
 pub place_linked : (d : HashAndSize) (entries : List Entry) → position (same d) (keys_of entries) ≡ position (is_blob d) (linked entries)
@@ -94,10 +79,6 @@ place_linked d entries =
     let len : length (keys_of entries) ≡ length (linked entries) = length_keys entries ∙ sym (length_linked entries) in
     ap (λ (n : ℕ). cond (ltb n (length (keys_of entries))) (Some n) None) place
     ∙ ap (λ (n : ℕ). cond (ltb (position_or_len (is_blob d) (linked entries)) n) (Some (position_or_len (is_blob d) (linked entries))) None) len
-
-no_place : (b : Bool) (i : ℕ) → cond b (Some i) None ≡ None → b ≡ false
-no_place true i e = absurd cc
-no_place false i e = refl
 
 all_fail_by : (b : Bool) (m n : ℕ) → suc m ≤ cond (not b) (1 + n) 0 → (b ≡ false) × (m ≤ n)
 all_fail_by true m n h = absurd (omega arith)
@@ -141,7 +122,7 @@ pub inserted : (d : HashAndSize) (edges : Option (List Edge)) (entries : List En
 inserted d edges [] none = refl
 inserted d edges (e ∷ es) none =
     let h = or_parts (is_blob d (row_of e)) (list_any (is_blob d) (linked es)) none in
-    inserted_by d edges e es (same d e.0) (same_turned d e.0 ∙ h.0)
+    inserted_by d edges e es (same d e.0) (same_swap d e.0 ∙ h.0)
     ∙ ap (λ (rows : List Linked). row_of e ∷ rows) (inserted d edges es h.1)
 
 filtered_by : (b : Bool) (e : Entry) (rest : List Entry) (rows : List Linked) → linked rest ≡ rows → linked (cond b (e ∷ rest) rest) ≡ cond b (row_of e ∷ rows) rows
@@ -174,7 +155,7 @@ removed_by d e es false true e1 h rest = absurd cc
 pub removed : (d : HashAndSize) (entries : List Entry) → Distinct (linked entries) → linked (remove_entry (same d) entries) ≡ others d (linked entries)
 removed d [] distinct = refl
 removed d (e ∷ es) distinct =
-    removed_by d e es (same d e.0) (same e.0 d) (same_turned d e.0)
+    removed_by d e es (same d e.0) (same e.0 d) (same_swap d e.0)
     (λ t. let is : d ≡ e.0 = equal_from_same d e.0 t in
     all_others d (linked es) (every_weaker (Differs (row_of e)) (λ row. row.digest ≢ d) (λ row n q. n (q ∙ is)) (linked es) distinct.0))
     (removed d es distinct.1)

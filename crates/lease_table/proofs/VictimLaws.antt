@@ -1,10 +1,10 @@
 -- How many digests a pass removes.
-use Rattle.std.proofs.Common.{◌≡◌, ℕ, suc, ◌-◌, ◌<◌, ◌≤◌, Bool, true, false, cond, List, [], ◌∷◌, length, take, refl, ap, ◌∙◌, arith}
+use Rattle.std.proofs.Common.{◌≡◌, ℕ, suc, ◌-◌, ◌<◌, ◌≤◌, Bool, true, false, cond, List, [], ◌∷◌, length, refl, ap, ◌∙◌, arith}
 use Rattle.std.specs.Prelude.{nat_le}
 use Rattle.std.proofs.lemmas.Bool.{le-leb, lt-leb}
-use Rattle.std.proofs.lemmas.List.Sums.{sum_by-cons}
 use Rattle.digest_types.specs.Name.{HashAndSize}
-use Rattle.store_core.specs.Pass.{least, frees, victims}
+use Rattle.store_core.specs.Pass.{least, victims}
+use Rattle.store_core.proofs.MarkedRows.{frees_later}
 
 -- none of no digests
 pub victims_none : (bytes target : ℕ) → victims [] bytes target ≡ 0
@@ -24,11 +24,6 @@ pub victims_enough : (ds : List HashAndSize) (bytes target : ℕ) → bytes ≤ 
 unfolding victims least
 victims_enough [] bytes target le = refl
 victims_enough (d ∷ ds) bytes target le = first_by (nat_le (bytes - 0) target) _ (le-leb (bytes - 0) target (omega arith))
-
--- what is left without the first of several digests
-frees_later : (d : HashAndSize) (ds : List HashAndSize) (bytes target k : ℕ) → frees (d ∷ ds) bytes target (suc k) ≡ frees ds (bytes - d.size) target k
-frees_later d ds bytes target k =
-    ap (λ (n : ℕ). nat_le n target) (let e = sum_by-cons (λ (x : HashAndSize). x.size) d (take k ds) in omega arith)
 
 -- else the first one, and those of the others for what is left
 pub victims_more : (d : HashAndSize) (ds : List HashAndSize) (bytes target : ℕ) → target < bytes → victims (d ∷ ds) bytes target ≡ suc (victims ds (bytes - d.size) target)

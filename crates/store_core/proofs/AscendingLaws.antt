@@ -1,5 +1,5 @@
 -- What `ascending` gives: the same values, each once, each below the next.
-use Rattle.std.proofs.Common.{◌≡◌, ◌↔◌, ◌⊎◌, ℕ, zero, suc, Bool, true, false, List, [], ◌∷◌, Contains, refl, sym, ap, subst, ◌∙◌, inl, inr, arith}
+use Rattle.std.proofs.Common.{◌≡◌, ◌↔◌, ◌⊎◌, zero, suc, Bool, true, false, List, [], ◌∷◌, Contains, refl, sym, ap, subst, ◌∙◌, inl, inr, arith}
 use Rattle.std.specs.List.{AllByRecursion, dedup}
 use Rattle.std.specs.List.Sorted.{IsSorted, IsStrictlySortedBy, IsPermutation}
 use Rattle.std.specs.Ordering.{eq_by_cmp, is_eq, nat_cmp, ordering_reverse, ordering_then}
@@ -10,7 +10,6 @@ use Rattle.std.specs.Cmp.Lexicographic.{slice_cmp, bytes_decides, texts_ties}
 use Rattle.std.proofs.lemmas.Bool.{and_from, eq-eqb}
 use Rattle.std.proofs.lemmas.Bool.Decides.{nat_tests}
 use Rattle.std.proofs.lemmas.Cmp.{tied_itself, on_total, then_total, nat_cmp_total, nat_list_cmp_total}
-use Rattle.std.proofs.lemmas.List.Elements.{All-from_recursion, All-contains}
 use Rattle.std.proofs.lemmas.List.Kept.{Contains-dedup, Contains-from_dedup, IsStrictlySortedBy-dedup}
 use Rattle.std.proofs.lemmas.List.Sorted.{Contains-permutation, IsPermutation-sym}
 use Rattle.std.proofs.lemmas.Map.Keys.{sorted_head, sorted_tail}
@@ -22,8 +21,9 @@ use Rattle.directory_canon.specs.Tree.{digest_cmp}
 use Rattle.store_core.specs.Ascending.{by_order, placed, ascending}
 use Rattle.store_core.specs.Reach.{as_dir, as_file, kind_number, is_pair, pair_cmp}
 use Rattle.store_core.specs.State.{same}
-use Rattle.store_core.proofs.ReachLaws.{same_tests, Contains_first, Contains_later, pair_itself, pair_equal}
-use Rattle.store_core.proofs.Same.{equal_from_same, same_itself, same_from_equal}
+use Rattle.store_core.proofs.ReachLaws.{same_tests, Contains_later, pair_itself, pair_equal}
+use Rattle.store_core.proofs.Same.{equal_from_same, same_itself, same_from_equal, named_is, named}
+use Rattle.store_core.proofs.Elements.{every_contains, every_weaker, has_first}
 
 -- a total order in which only equal values tie
 pub record IsExact {X : Type 0} (cmp : X → X → Ordering) : Type 0 where
@@ -39,14 +39,6 @@ Contains_cases x xs y (suc k, lt, e) = inr (k, omega arith, e)
 
 pub none_contained : {X : Type 0} (y : X) → Contains [] y → ⊥
 none_contained y (k, lt, e) = omega arith
-
--- what holds of each element holds of one
-pub holds_of : {X : Type 0} (P : X → Type 0) (xs : List X) (x : X) → AllByRecursion P xs → Contains xs x → P x
-holds_of P xs x all h = All-contains P xs x (All-from_recursion P xs all) h
-
-every_weaker : {X : Type 0} (P Q : X → Type 0) → ((x : X) → P x → Q x) → (xs : List X) → AllByRecursion P xs → AllByRecursion Q xs
-every_weaker P Q f [] h = tt
-every_weaker P Q f (x ∷ xs) h = (f x h.0, every_weaker P Q f xs h.1)
 
 -- a list in order with one more value that is below all of it
 sorted_cons : {X : Type 0} (cmp : X → X → Ordering) (x : X) (xs : List X) → AllByRecursion (λ y. cmp x y ≡ Less) xs → IsStrictlySortedBy cmp xs → IsStrictlySortedBy cmp (x ∷ xs)
@@ -91,7 +83,7 @@ placed_before : {X : Type 0} (o : Ordering) (x y : X) (ys more : List X) (z : X)
 placed_before Less x y ys more z later h = Contains_later x (y ∷ ys) z h
 placed_before Equal x y ys more z later h = h
 placed_before Greater x y ys more z later h = elim (Contains_cases y ys z h) [
-  | inl e ↦ subst (λ w. Contains (y ∷ more) w) e (Contains_first y more)
+  | inl e ↦ subst (λ w. Contains (y ∷ more) w) e (has_first y more)
   | inr h' ↦ Contains_later y more z (later z h')
 ]
 
@@ -102,12 +94,12 @@ placed_keeps cmp x (y ∷ ys) z h = placed_before (cmp x y) x y ys (placed cmp x
 -- the new value is there, itself or as one that ties with it
 placed_new : {X : Type 0} (cmp : X → X → Ordering) → ((x y : X) → cmp x y ≡ Equal → x ≡ y) → (o : Ordering) (x y : X) (ys more : List X) → cmp x y ≡ o → Contains more x
     → Contains (by_order o (x ∷ y ∷ ys) (y ∷ ys) (y ∷ more)) x
-placed_new cmp ties Less x y ys more e h = Contains_first x (y ∷ ys)
-placed_new cmp ties Equal x y ys more e h = subst (λ w. Contains (y ∷ ys) w) (sym (ties x y e)) (Contains_first y ys)
+placed_new cmp ties Less x y ys more e h = has_first x (y ∷ ys)
+placed_new cmp ties Equal x y ys more e h = subst (λ w. Contains (y ∷ ys) w) (sym (ties x y e)) (has_first y ys)
 placed_new cmp ties Greater x y ys more e h = Contains_later y more x h
 
 placed_adds : {X : Type 0} (cmp : X → X → Ordering) → ((x y : X) → cmp x y ≡ Equal → x ≡ y) → (x : X) (ys : List X) → Contains (placed cmp x ys) x
-placed_adds cmp ties x [] = Contains_first x []
+placed_adds cmp ties x [] = has_first x []
 placed_adds cmp ties x (y ∷ ys) = placed_new cmp ties (cmp x y) x y ys (placed cmp x ys) refl (placed_adds cmp ties x ys)
 
 -- ---- all values
@@ -135,11 +127,11 @@ ascending_has cmp ties (x ∷ xs) z h = elim (Contains_cases x xs z h) [
 
 contains_each : {X : Type 0} (xs all : List X) → ((z : X) → Contains xs z → Contains all z) → AllByRecursion (Contains all) xs
 contains_each [] all h = tt
-contains_each (x ∷ xs) all h = (h x (Contains_first x xs), contains_each xs all (λ z k. h z (Contains_later x xs z k)))
+contains_each (x ∷ xs) all h = (h x (has_first x xs), contains_each xs all (λ z k. h z (Contains_later x xs z k)))
 
 -- no value is added
 ascending_from : {X : Type 0} (cmp : X → X → Ordering) (xs : List X) (z : X) → Contains (ascending cmp xs) z → Contains xs z
-ascending_from cmp xs z h = holds_of (Contains xs) (ascending cmp xs) z (every_ascending cmp (Contains xs) xs (contains_each xs xs (λ w k. k))) h
+ascending_from cmp xs z h = every_contains (Contains xs) (ascending cmp xs) z (every_ascending cmp (Contains xs) xs (contains_each xs xs (λ w k. k))) h
 
 -- the values in order are those that there are
 pub ascending_members : {X : Type 0} (cmp : X → X → Ordering) → IsExact cmp → (xs : List X) (z : X) → Contains (ascending cmp xs) z ↔ Contains xs z
@@ -152,7 +144,7 @@ below_first : {X : Type 0} (cmp : X → X → Ordering) → IsTotalOrder cmp →
 below_first cmp total x y ys e sorted h = elim (Contains_cases y ys x h) [
   | inl same ↦ let itself = tied_itself total x in let apart : cmp x x ≡ Less = subst (λ w. cmp x w ≡ Less) same e in cc
   | inr later ↦
-      let above : cmp y x ≡ Less = holds_of (λ z. cmp y z ≡ Less) ys x (sorted_head cmp y ys sorted) later in
+      let above : cmp y x ≡ Less = every_contains (λ z. cmp y z ≡ Less) ys x (sorted_head cmp y ys sorted) later in
       let back : cmp x y ≡ Greater = total.antisymm x y ∙ ap ordering_reverse above in cc
 ]
 
@@ -160,7 +152,7 @@ below_first cmp total x y ys e sorted h = elim (Contains_cases y ys x h) [
 rest_holds : {X : Type 0} (cmp : X → X → Ordering) → IsTotalOrder cmp → (x : X) (xs ys : List X) (z : X) → IsStrictlySortedBy cmp (x ∷ xs) → Contains xs z → Contains (x ∷ ys) z → Contains ys z
 rest_holds cmp total x xs ys z sorted there h = elim (Contains_cases x ys z h) [
   | inl same ↦
-      absurd (let apart : cmp x z ≡ Less = holds_of (λ w. cmp x w ≡ Less) xs z (sorted_head cmp x xs sorted) there in
+      absurd (let apart : cmp x z ≡ Less = every_contains (λ w. cmp x w ≡ Less) xs z (sorted_head cmp x xs sorted) there in
       let itself : cmp x z ≡ Equal = subst (λ w. cmp x w ≡ Equal) same (tied_itself total x) in cc)
   | inr later ↦ later
 ]
@@ -173,7 +165,7 @@ pub record Alike {X : Type 0} (xs ys : List X) : Type 0 where
 -- by how their first values compare
 equal_by : {X : Type 0} (cmp : X → X → Ordering) → IsExact cmp → (o : Ordering) (x y : X) (xs ys : List X) → cmp x y ≡ o → IsStrictlySortedBy cmp (x ∷ xs) → IsStrictlySortedBy cmp (y ∷ ys)
     → Alike (x ∷ xs) (y ∷ ys) → (Alike xs ys → xs ≡ ys) → x ∷ xs ≡ y ∷ ys
-equal_by cmp exact Less x y xs ys e sx sy alike rest = absurd (below_first cmp exact.total x y ys e sy (alike.there x (Contains_first x xs)))
+equal_by cmp exact Less x y xs ys e sx sy alike rest = absurd (below_first cmp exact.total x y ys e sy (alike.there x (has_first x xs)))
 equal_by cmp exact Equal x y xs ys e sx sy alike rest =
     let same : x ≡ y = exact.ties x y e in
     let alike_rest : Alike xs ys = record {
@@ -182,12 +174,12 @@ equal_by cmp exact Equal x y xs ys e sx sy alike rest =
     } in
     let equal = rest alike_rest in cc
 equal_by cmp exact Greater x y xs ys e sx sy alike rest =
-    absurd (below_first cmp exact.total y x xs (exact.total.antisymm y x ∙ ap ordering_reverse e) sx (alike.back y (Contains_first y ys)))
+    absurd (below_first cmp exact.total y x xs (exact.total.antisymm y x ∙ ap ordering_reverse e) sx (alike.back y (has_first y ys)))
 
 pub equal_sorted : {X : Type 0} (cmp : X → X → Ordering) → IsExact cmp → (xs ys : List X) → IsStrictlySortedBy cmp xs → IsStrictlySortedBy cmp ys → Alike xs ys → xs ≡ ys
 equal_sorted cmp exact [] [] sx sy alike = refl
-equal_sorted cmp exact [] (y ∷ ys) sx sy alike = absurd (none_contained y (alike.back y (Contains_first y ys)))
-equal_sorted cmp exact (x ∷ xs) [] sx sy alike = absurd (none_contained x (alike.there x (Contains_first x xs)))
+equal_sorted cmp exact [] (y ∷ ys) sx sy alike = absurd (none_contained y (alike.back y (has_first y ys)))
+equal_sorted cmp exact (x ∷ xs) [] sx sy alike = absurd (none_contained x (alike.there x (has_first x xs)))
 equal_sorted cmp exact (x ∷ xs) (y ∷ ys) sx sy alike =
     equal_by cmp exact (cmp x y) x y xs ys refl sx sy alike (equal_sorted cmp exact xs ys (sorted_tail cmp x xs sx) (sorted_tail cmp y ys sy))
 
@@ -243,13 +235,6 @@ then_ties : (o p : Ordering) → ordering_then o p ≡ Equal → (o ≡ Equal) �
 then_ties Less p e = absurd cc
 then_ties Equal p e = (refl, e)
 then_ties Greater p e = absurd cc
-
-named : List ℕ → ℕ → HashAndSize
-named hash size = record { hash = hash; size = size }
-
-named_is : (d : HashAndSize) → named d.hash d.size ≡ d
-unfolding named
-named_is d = refl
 
 -- digests tie only where hash and size are equal
 digest_ties : (a b : HashAndSize) → digest_cmp a b ≡ Equal → a ≡ b

@@ -86,7 +86,7 @@ room_other : (s : State) (size : ℕ) (d : HashAndSize) → row_of d s.rows ≡ 
 room_other s size d none =
     cond_both (nat_lt s.high (used s + size)) (gone s (min s.low (s.high - size))) [] (λ ds. is_among ds d ≡ false) (λ _. gone_other s (min s.low (s.high - size)) d none) (λ _. refl)
 
-without_last : (ds : List HashAndSize) (rows : List Row) (row : Row) → is_among ds row.digest ≡ false → without ds (rows ++ row ∷ []) ≡ without ds rows ++ row ∷ []
+pub without_last : (ds : List HashAndSize) (rows : List Row) (row : Row) → is_among ds row.digest ≡ false → without ds (rows ++ row ∷ []) ≡ without ds rows ++ row ∷ []
 without_last ds rows row other =
     filter-append (λ (r : Row). not (is_among ds r.digest)) rows (row ∷ [])
     ∙ ap (λ (xs : List Row). without ds rows ++ xs) (cond-true (not (is_among ds row.digest)) (row ∷ []) [] (not_from_false (is_among ds row.digest) other))

@@ -23,7 +23,7 @@ use Rattle.store_core.proofs.OwnerLaws.{one_lease}
 
 -- ---- a legal entry is served
 
-served_by : (b : Bool) (x : Reply × State) (s : State) (reply : Reply) → reply ≡ (cond b x (replies.Refused, s)).0 → reply ≢ replies.Refused → b ≡ true
+pub served_by : (b : Bool) (x : Reply × State) (s : State) (reply : Reply) → reply ≡ (cond b x (replies.Refused, s)).0 → reply ≢ replies.Refused → b ≡ true
 served_by true x s reply e h = refl
 served_by false x s reply e h = absurd (h e)
 

@@ -21,11 +21,11 @@ both_by p q x false true xs e f h = cond-false (p x) (x ∷ filter p (filter q x
 both_by p q x true false xs e f h = h
 both_by p q x false false xs e f h = h
 
-filter_both : {X : Type 0} (p q : X → Bool) (xs : List X) → filter p (filter q xs) ≡ filter (λ y. p y && q y) xs
+pub filter_both : {X : Type 0} (p q : X → Bool) (xs : List X) → filter p (filter q xs) ≡ filter (λ y. p y && q y) xs
 filter_both p q [] = refl
 filter_both p q (x ∷ xs) = both_by p q x (p x) (q x) xs refl refl (filter_both p q xs)
 
-neither : (a b : Bool) → (not a && not b) ≡ not (a || (b || false))
+pub neither : (a b : Bool) → (not a && not b) ≡ not (a || (b || false))
 neither true b = refl
 neither false true = refl
 neither false false = refl

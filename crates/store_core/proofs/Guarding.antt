@@ -144,7 +144,7 @@ unsound_is : (b : Bool) (row : Row) → cond b (record row { sound = false }) ro
 unsound_is true row = refl
 unsound_is false row = refl
 
-same_swap : (a b : HashAndSize) → same a b ≡ same b a
+pub same_swap : (a b : HashAndSize) → same a b ≡ same b a
 same_swap a b = same_tests (same a b) (same b a) (λ e. same_from_equal b a (sym (equal_from_same a b e))) (λ e. same_from_equal a b (sym (equal_from_same b a e)))
 
 damage_kept : (s : State) (root : Edge) (p : HashAndSize) → RowsKept root s.rows (damaged p s.rows) (λ d sound. if same p d then false else sound)

@@ -104,7 +104,7 @@ going_none [] bytes target low = refl
 going_none (d ∷ ds) bytes target low =
     ap (λ b. take (cond b 0 (suc (least (λ k. frees (d ∷ ds) bytes target (suc k)) (length ds)))) (d ∷ ds)) (le-leb (bytes - 0) target (omega arith))
 
-frees_later : (d : HashAndSize) (ds : List HashAndSize) (bytes target k : ℕ) → frees (d ∷ ds) bytes target (suc k) ≡ frees ds (bytes - d.size) target k
+pub frees_later : (d : HashAndSize) (ds : List HashAndSize) (bytes target k : ℕ) → frees (d ∷ ds) bytes target (suc k) ≡ frees ds (bytes - d.size) target k
 frees_later d ds bytes target k =
     let left : bytes - total (d ∷ take k ds) ≡ bytes - d.size - total (take k ds) = omega (arith, sum_by-cons (λ (x : HashAndSize). x.size) d (take k ds)) in
     ap (λ (n : ℕ). nat_le n target) left

@@ -44,7 +44,7 @@ abbrev pub firsts_of : (HashAndSize → Bool) → ℕ → List Row → List Hash
 firsts_of p k rows = take k (filter p (digests rows))
 
 -- a digest that no row has isn't among theirs
-other_digests : (p : HashAndSize → Bool) (k : ℕ) (row : Row) (rows : List Row) → AllByRecursion (Differs row) rows → is_among (firsts_of p k rows) row.digest ≡ false
+pub other_digests : (p : HashAndSize → Bool) (k : ℕ) (row : Row) (rows : List Row) → AllByRecursion (Differs row) rows → is_among (firsts_of p k rows) row.digest ≡ false
 other_digests p k row rows h =
     not_among (firsts_of p k rows) row.digest
     (every_take (λ x. x ≢ row.digest) k (filter p (digests rows)) (every_filter (λ x. x ≢ row.digest) p (digests rows) (every_map (Differs row) (λ x. x ≢ row.digest) (λ (r : Row). r.digest) (λ r n. n) rows h)))

@@ -3,7 +3,7 @@ use Rattle.std.proofs.Common.{◌≡◌, ◌↔◌, ◌⊎◌, ℕ, zero, suc, �
 use Rattle.std.specs.Prelude.{nat_eq}
 use Rattle.std.specs.List.{AllByRecursion, list_any}
 use Rattle.std.proofs.lemmas.Bool.{and_parts, and_from, or_cases, or_left, or_right, false_from_ne_true, true_from_ne_false, eq-eqb, cases_lt}
-use Rattle.std.proofs.lemmas.List.Elements.{Contains-get_or, Contains-append_right, All-contains, All-cons, All-nil, All-filter, All-weaker, All-contains_itself}
+use Rattle.std.proofs.lemmas.List.Elements.{Contains-append_right, All-contains, All-cons, All-nil, All-filter, All-weaker, All-contains_itself}
 use Rattle.std.proofs.lemmas.List.Folds.{list_any_at}
 use Rattle.std.proofs.lemmas.List.Sums.{length-filter, count_by-le-length}
 use Rattle.digest_types.specs.Name.{HashAndSize}
@@ -13,6 +13,7 @@ use Rattle.directory_canon.specs.declared.node.Edge.{Edge}
 use Rattle.store_core.specs.State.{same}
 use Rattle.store_core.specs.Reach.{Linked, as_file, as_dir, is_reached, kind_number, is_pair, links_to, IsStep, IsPath, within, reaches, is_nearer}
 use Rattle.store_core.proofs.Same.{equal_from_same, same_itself}
+use Rattle.store_core.proofs.Elements.{has_first}
 
 -- ---- tests and lists
 
@@ -20,9 +21,6 @@ use Rattle.store_core.proofs.Same.{equal_from_same, same_itself}
 pub same_tests : (a b : Bool) → (a ≡ true → b ≡ true) → (b ≡ true → a ≡ true) → a ≡ b
 same_tests true b there back = sym (there refl)
 same_tests false b there back = sym (false_from_ne_true b (λ e. let t = back e in cc))
-
-pub Contains_first : {X : Type 0} (x : X) (xs : List X) → Contains (x ∷ xs) x
-Contains_first x xs = Contains-get_or (x ∷ xs) 0 x (omega arith)
 
 pub Contains_later : {X : Type 0} (x : X) (xs : List X) (y : X) → Contains xs y → Contains (x ∷ xs) y
 Contains_later x xs y h = Contains-append_right (x ∷ []) xs y h
@@ -37,7 +35,7 @@ pub record Passes {X : Type 0} (test : X → Bool) (xs : List X) : Type 0 where
 pub some_passes : {X : Type 0} (test : X → Bool) (xs : List X) → list_any test xs ≡ true → Passes test xs
 some_passes test [] e = absurd cc
 some_passes test (x ∷ xs) e = elim (or_cases (test x) (list_any test xs) e) [
-  | inl h ↦ record { element = x; is_there = Contains_first x xs; passes = h }
+  | inl h ↦ record { element = x; is_there = has_first x xs; passes = h }
   | inr h ↦ let p = some_passes test xs h in record { element = p.element; is_there = Contains_later x xs p.element p.is_there; passes = p.passes }
 ]
 
@@ -353,7 +351,7 @@ apart_root : (there : List Linked) (starts : List Edge) (pair : Edge) → list_a
 apart_root there starts pair e = record {
   element = pair;
   is_there = Contains_from_pair starts pair e;
-  passes = reaches_root there (pair ∷ []) pair (pair_from_Contains (pair ∷ []) pair (Contains_first pair []));
+  passes = reaches_root there (pair ∷ []) pair (pair_from_Contains (pair ∷ []) pair (has_first pair []));
 }
 
 -- what is within so many steps is reached from one of the roots
@@ -387,7 +385,7 @@ pub Contains_from_filter : {X : Type 0} (keep : X → Bool) (xs : List X) (x : X
 Contains_from_filter keep xs x h = All-contains (λ y. Contains xs y) (filter keep xs) x (All-filter keep (λ y. Contains xs y) xs (All-contains_itself xs)) h
 
 first_kept : {X : Type 0} (x : X) (rest : List X) (b : Bool) → b ≡ true → Contains (cond b (x ∷ rest) rest) x
-first_kept x rest true e = Contains_first x rest
+first_kept x rest true e = has_first x rest
 first_kept x rest false e = absurd cc
 
 later_kept : {X : Type 0} (x y : X) (rest : List X) (b : Bool) → Contains rest y → Contains (cond b (x ∷ rest) rest) y

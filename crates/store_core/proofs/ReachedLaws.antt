@@ -15,8 +15,9 @@ use Rattle.store_core.specs.State.{is_empty, is_sound}
 use Rattle.store_core.specs.Reach.{Linked, as_dir, blobs, edges_of, is_dir, is_pair, links_to, pair_cmp, reached, reaches}
 use Rattle.store_core.specs.Standing.{counted, digests_of, standing, wanted}
 use Rattle.store_core.proofs.AscendingLaws.{Contains_cases, none_contained, ascending_members, ascending_sorted, digest_exact, pair_exact}
-use Rattle.store_core.proofs.ReachLaws.{Contains_first, Contains_later, Contains_filter, Contains_from_filter, Contains_from_pair, pair_from_Contains, reaches_next, reaches_root, reaches_unfolds, some_passes}
+use Rattle.store_core.proofs.ReachLaws.{Contains_later, Contains_filter, Contains_from_filter, Contains_from_pair, pair_from_Contains, reaches_next, reaches_root, reaches_unfolds, some_passes}
 use Rattle.store_core.proofs.StandingLaws.{complete_parts}
+use Rattle.store_core.proofs.Elements.{has_first, has_map}
 
 -- ---- lists of lists
 
@@ -38,18 +39,11 @@ flat_map_has f (first ∷ rest) x y there has = elim (Contains_cases first rest 
 flat_map_from : {X Y : Type 0} (f : X → List Y) (xs : List X) (y : Y) → Contains (flat_map f xs) y → HasPart f xs y
 flat_map_from f [] y h = absurd (none_contained y h)
 flat_map_from f (first ∷ rest) y h = elim (Contains-append_cases (f first) (flat_map f rest) y h) [
-  | inl has ↦ record { element = first; is_there = Contains_first first rest; has = has }
+  | inl has ↦ record { element = first; is_there = has_first first rest; has = has }
   | inr later ↦ let p = flat_map_from f rest y later in record { element = p.element; is_there = Contains_later first rest p.element p.is_there; has = p.has }
 ]
 
-map_has : {X Y : Type 0} (f : X → Y) (xs : List X) (x : X) → Contains xs x → Contains (map f xs) (f x)
-map_has f [] x h = absurd (none_contained x h)
-map_has f (first ∷ rest) x h = elim (Contains_cases first rest x h) [
-  | inl is ↦ subst (λ z. Contains (f first ∷ map f rest) (f z)) is (Contains_first (f first) (map f rest))
-  | inr later ↦ Contains_later (f first) (map f rest) (f x) (map_has f rest x later)
-]
-
-kept_passes : {X : Type 0} (test : X → Bool) (xs : List X) (x : X) → Contains (filter test xs) x → test x ≡ true
+pub kept_passes : {X : Type 0} (test : X → Bool) (xs : List X) (x : X) → Contains (filter test xs) x → test x ≡ true
 kept_passes test xs x h = All-contains (λ y. test y ≡ true) (filter test xs) x (filter_passes test xs) h
 
 -- ---- the list of what is reached
@@ -117,7 +111,7 @@ digests_have : (pairs : List Edge) (pair : Edge) → Contains pairs pair → is_
 digests_have pairs pair h filled =
     let all = map (λ (p : Edge). p.digest) pairs in
     Contains_filter (λ d. not (is_empty d)) (ascending digest_cmp all) pair.digest
-    ((ascending_members digest_cmp digest_exact all pair.digest).1 (map_has (λ (p : Edge). p.digest) pairs pair h)) (not_empty_passes _ filled)
+    ((ascending_members digest_cmp digest_exact all pair.digest).1 (has_map (λ (p : Edge). p.digest) pairs pair h)) (not_empty_passes _ filled)
 
 -- where none is wanted, each of the digests is sound
 none_wanted : (rows : List Row) (ds : List HashAndSize) (d : HashAndSize) → wanted rows ds ≡ [] → Contains ds d → is_sound rows d ≡ true

@@ -12,10 +12,10 @@ both : (p q : Bool) → (p && q) ≡ true → (p ≡ true) × (q ≡ true)
 both true q e = (refl, e)
 both false q e = absurd cc
 
-named : List ℕ → ℕ → HashAndSize
+pub named : List ℕ → ℕ → HashAndSize
 named hash size = record { hash = hash; size = size }
 
-named_is : (d : HashAndSize) → named d.hash d.size ≡ d
+pub named_is : (d : HashAndSize) → named d.hash d.size ≡ d
 unfolding named
 named_is d = refl
 

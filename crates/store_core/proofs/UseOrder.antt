@@ -34,7 +34,7 @@ row_at d rows i x e =
     let lt = ltb-true _ _ h.0 in
     find_at (is_of d) rows ∙ slice_get-get_or rows (position_or_len (is_of d) rows) x lt ∙ ap (λ (k : ℕ). Some (get_or rows k x)) h.1
 
-no_place : (b : Bool) (i : ℕ) → cond b (Some i) None ≡ None → b ≡ false
+pub no_place : (b : Bool) (i : ℕ) → cond b (Some i) None ≡ None → b ≡ false
 no_place true i e = absurd cc
 no_place false i e = refl
 

@@ -7,7 +7,7 @@ use digest_types::Digest;
 
 /// Whether this is the digest of no bytes.
 #[tactic(auto, using(crate::proofs::Same::filled_from_size))]
-pub(crate) fn is_empty_blob(digest: &Digest) -> bool
+pub fn is_empty_blob(digest: &Digest) -> bool
     ensures { result ≡ is_empty digest.now }
 {
     digest.size == 0 && *digest == Digest::empty()

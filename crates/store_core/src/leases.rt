@@ -10,14 +10,14 @@ use proto_wire::OutOfMemory;
 use std::alloc::Global;
 
 /// Whether an owner holds a lease.
-pub(crate) fn holds(leases: &[Lease], owner: u64) -> bool
+pub fn holds(leases: &[Lease], owner: u64) -> bool
     ensures { result ≡ list_any (is_of_owner owner) leases.now }
 {
     leases.iter().any(|lease| lease.owner == owner)
 }
 
 /// The lease with this number, where it is the owner's.
-pub(crate) fn own_lease(leases: &[Lease], owner: u64, id: u64) -> Option<Lease>
+pub fn own_lease(leases: &[Lease], owner: u64, id: u64) -> Option<Lease>
     ensures { result ≡ find (λ lease. has_id id lease && is_of_owner owner lease) leases.now }
 {
     leases
@@ -27,7 +27,7 @@ pub(crate) fn own_lease(leases: &[Lease], owner: u64, id: u64) -> Option<Lease>
 }
 
 /// Takes the lease with this number away. It takes no memory.
-pub(crate) fn release(leases: &mut Vec<Lease>, id: u64)
+pub fn release(leases: &mut Vec<Lease>, id: u64)
     ensures { leases.new.items ≡ filter (λ other. not (has_id id other)) leases.old.items }
 {
     leases.retain(|lease| lease.id != id);

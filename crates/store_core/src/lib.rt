@@ -6,19 +6,22 @@ mod digests;
 mod event;
 mod finding;
 pub mod laws;
-mod leases;
+pub mod leases;
 mod machine;
 mod order;
-mod owners;
+pub mod owners;
 mod passing;
 mod reach;
 mod rows;
 mod standing;
 mod state;
 
+pub use digests::is_empty_blob;
 pub use event::{Event, Reply, Standing, Usage};
 pub use machine::Core;
 pub use order::{digests_of, sort_pairs};
+pub use reach::is_dir;
+pub use standing::{MAX_PAIRS, MAX_STEPS, counted};
 pub use state::{Lease, Marks, Row};
 
 #[cfg(test)]

@@ -33,7 +33,7 @@ fn as_dir(digest: &Digest) -> Edge
     }
 }
 
-pub(crate) fn is_dir(pair: &Edge) -> bool
+pub fn is_dir(pair: &Edge) -> bool
     ensures { result ≡ is_dir pair.now }
 {
     pair.kind == Kind::Dir

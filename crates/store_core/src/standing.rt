@@ -16,10 +16,10 @@ use proto_wire::OutOfMemory;
 use std::alloc::Global;
 
 /// How many pairs besides the root are at most reached.
-const MAX_PAIRS: usize = 1_000_000;
+pub const MAX_PAIRS: usize = 1_000_000;
 
 /// At how many steps from the root a Directory is too deep.
-const MAX_STEPS: u64 = 128;
+pub const MAX_STEPS: u64 = 128;
 
 /// Whether the digest is that of a sound row without edges.
 fn is_plain(rows: &[Row], digest: &Digest) -> bool
@@ -39,7 +39,7 @@ fn not_directory(rows: &[Row], pairs: &[Edge]) -> Option<Digest>
 }
 
 /// The pairs that count: all of them, or without `files` those of kind Dir.
-fn counted(alloc: Global, pairs: &[Edge], files: bool) -> Result<Vec<Edge>, OutOfMemory>
+pub fn counted(alloc: Global, pairs: &[Edge], files: bool) -> Result<Vec<Edge>, OutOfMemory>
     ensures { IfOk result (λ v. v.items ≡ counted files pairs.now) }
 {
     let mut counted = Vec::from_slice(alloc, pairs)?;

@@ -5,11 +5,12 @@ use Rattle.digest_types.specs.Name.{HashAndSize}
 use Rattle.store_core.specs.declared.state.Row.{Row}
 use Rattle.store_core.specs.State.{is_among, sizes}
 use Rattle.store_core.specs.Pass.{without}
+use Rattle.store_core.proofs.Changes.{new_row}
 use Rattle.lease_table.specs.Table.{Table, DistinctDigests, other_digests}
 use Rattle.lease_table.proofs.OrderLaws.{apart, distinct_more}
 use Rattle.indexed_core.specs.Joined.{Flag, is_flag, rows_in}
 use Rattle.indexed_core.specs.Parts.{Parts}
-use Rattle.indexed_core.proofs.RowChanges.{IsChanged, bytes_left, changed_joined, changed_rows, flag_of, flags_undone, new_row, not_in_order, order_undone, same_joined, same_rows}
+use Rattle.indexed_core.proofs.RowChanges.{IsChanged, bytes_left, changed_joined, changed_rows, flag_of, flags_undone, not_in_order, order_undone, same_joined, same_rows}
 use Rattle.indexed_core.proofs.index.Index.add.Goals as goal
 
 pub insert-requires : goal.insert-requires

@@ -1,4 +1,4 @@
-use Rattle.std.proofs.Common.{sym, ◌∙◌, ap, Option, ℕ}
+use Rattle.std.proofs.Common.{◌∙◌, ap, Option, ℕ}
 use Rattle.std.specs.Prelude.{is_some}
 use Rattle.lease_table.specs.Table.{Table, has_row}
 use Rattle.lease_table.proofs.TableLaws.{row_told}
