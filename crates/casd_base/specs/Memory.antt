@@ -1,5 +1,6 @@
 -- The link in memory as a plain value.
-use Rattle.std.specs.Prelude.{◌+◌, ◌-◌, ◌^◌, ◌==◌, ◌&&◌, nat_lt, min, max, ℕ, List, [], ◌∷◌, ◌++◌, length, drop, Option, Some, is_none, if◌then◌else◌}
+use Rattle.std.specs.Prelude.{◌+◌, ◌-◌, ◌^◌, min, max, ℕ, List, [], ◌∷◌, ◌++◌, length, drop, Option}
+use Rattle.casd_base.specs.Streams.{noted_after}
 
 -- what is left to read and what was written; how long each next read may be; which calls fail, by their common
 -- number from 0; how many calls were made; both counts of faults; what had been written when the end was met
@@ -26,13 +27,9 @@ cut_to (cut ∷ cuts) fits = min (max cut 1) fits
 abbrev pub given : MemState → ℕ → ℕ
 given s room = cut_to s.cuts (min room (length s.left))
 
--- the end is noted at the first read that gives nothing into some room
-abbrev pub noted : MemState → ℕ → Option ℕ
-noted s room = if nat_lt 0 room && given s room == 0 && is_none s.ended then Some (length s.written) else s.ended
-
 -- a read of so much room that doesn't fail
 abbrev pub after_read : MemState → ℕ → MemState
-after_read s room = record s { left = drop (given s room) s.left; cuts = drop 1 s.cuts; calls = counted s.calls; ended = noted s room }
+after_read s room = record s { left = drop (given s room) s.left; cuts = drop 1 s.cuts; calls = counted s.calls; ended = noted_after s.ended (length s.written) (given s room) room }
 
 -- a write that doesn't fail, which takes all of the bytes
 abbrev pub after_write : MemState → List ℕ → MemState

@@ -3,6 +3,7 @@
 #![tactic(auto)]
 
 mod code;
+mod end;
 mod link;
 mod memory;
 mod pair;
@@ -10,6 +11,7 @@ mod sink;
 mod source;
 mod standard;
 mod status;
+mod stream;
 
 pub use code::Code;
 pub use link::Link;
@@ -19,6 +21,7 @@ pub use sink::{Sink, SinkEnd};
 pub use source::{Failed, Source};
 pub use standard::{StdSink, StdSource};
 pub use status::Status;
+pub use stream::StreamLink;
 
 #[cfg(test)]
 mod tests;

@@ -1,6 +1,6 @@
 //! `Link`.
 
-ghost use Rattle.std.specs.Prelude.{◌≡◌, ◌<◌, ◌≤◌, ℕ, List, Option, length, take, IfOk, OnErr};
+ghost use Rattle.std.specs.Prelude.{◌≡◌, ◌<◌, ◌≤◌, ℕ, List, Option, length, take, IsSome, IfOk, OnErr};
 ghost use Rattle.casd_base.specs.Causes.{HasCause, HasSinkCause};
 ghost use Rattle.casd_base.specs.Streams.{Takes, Adds, IsEnded, CountsOn, NotesEnd, KeepsEnd};
 
@@ -21,10 +21,10 @@ pub trait Link {
     // how many writes failed, up to 2^64 - 1
     ghost write_faults: { Self → ℕ };
 
-    // how many bytes were written, where it tells that
+    // how many bytes were written, as long as it tells that
     ghost sent: { Self → Option ℕ };
 
-    // where it tells that: how many bytes had been written when the first read began that met the end, or none yet
+    // as long as it tells that: how many bytes had been written when the first read began that met the end, or none yet
     ghost at_end: { Self → Option (Option ℕ) };
 
     /// Reads into the front of the buffer, and answers how many bytes. For a buffer that isn't empty, 0 is the end.
@@ -52,4 +52,8 @@ pub trait Link {
         ensures read_faults { read_faults self.new ≡ read_faults self.old }
         ensures sent { CountsOn (sent self.old) (sent self.new) result }
         ensures at_end { KeepsEnd (at_end self.old) (at_end self.new) };
+
+    // A link that tells where it met its end tells how many bytes were written too, so a read that finds the end notes
+    // just that number.
+    ghost sent_is_told: { (l : Self) → IsSome (at_end l) → IsSome (sent l) };
 }

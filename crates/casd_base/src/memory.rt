@@ -1,9 +1,11 @@
 //! `MemLink`, the double in memory.
 
-ghost use Rattle.std.specs.Prelude.{◌≡◌, ◌<◌, ◌≤◌, ◌↔◌, ◌==◌, ◌&&◌, nat_lt, if◌then◌else◌, is_none, [], ℕ, length, take, Some, None, Contains, IsErrOf, IsErr, IfOk, OnOk, OnErr};
+ghost use Rattle.std.specs.Prelude.{◌≡◌, ◌<◌, ◌≤◌, ◌↔◌, [], ℕ, length, take, Some, None, Contains, IsErrOf, IsErr, IfOk, OnOk, OnErr};
+ghost use Rattle.std.proofs.Common.{rules};
 ghost use Rattle.casd_base.specs.Memory.{counted, given, after_read, after_write};
 ghost use Rattle.casd_base.specs.declared.sink.SinkEnd.TheVariants.{Failed as Fault};
 
+use crate::end::noted_after;
 use crate::link::Link;
 use crate::sink::{Sink, SinkEnd};
 use crate::source::{Failed, Source};
@@ -107,7 +109,7 @@ impl MemLink {
         }
         buf[..count].copy_from_slice(&left[..count]);
         self.at += count;
-        self.ended = end_after(self.ended, self.written.len(), count, buf.len());
+        self.ended = noted_after(self.ended, self.written.len() as u64, count, buf.len());
         Ok(count)
     }
 
@@ -134,16 +136,6 @@ impl MemLink {
         }
         Ok(bytes.len())
     }
-}
-
-/// Where the end was met, after a read that gave `count` bytes into so much room, with so many bytes written before it.
-fn end_after(ended: Option<u64>, written: usize, count: usize, room: usize) -> Option<u64>
-    ensures { result ≡ if nat_lt 0 room && count == 0 && is_none ended then Some written else ended }
-{
-    if count == 0 && room > 0 && ended.is_none() {
-        return Some(written as u64);
-    }
-    ended
 }
 
 impl Source for MemLink {
@@ -178,6 +170,8 @@ impl Link for MemLink {
     ghost sent = { λ m. Some (length m.written) };
 
     ghost at_end = { λ m. Some m.ended };
+
+    ghost sent_is_told = { Prim.search rules };
 
     fn read(&mut self, buf: &mut [u8]) -> Result<usize, Failed> {
         self.next_read(buf)

@@ -1,8 +1,9 @@
 //! `PairLink`.
 
 ghost use Rattle.std.specs.Prelude.{◌≡◌, ◌^◌, nat_lt, None, Some, if◌then◌else◌};
-ghost use Rattle.casd_base.specs.Pair.{told};
+ghost use Rattle.casd_base.specs.Streams.{told, told_both};
 
+use crate::end::noted_after;
 use crate::link::Link;
 use crate::sink::{Sink, SinkEnd};
 use crate::source::{Failed, Source};
@@ -43,11 +44,11 @@ impl<S: Source, W: Sink> Link for PairLink<S, W> {
 
     ghost at_end = { λ l. told l.sent l.ended };
 
+    ghost sent_is_told = { λ l. told_both l.sent l.sent l.ended };
+
     fn read(&mut self, buf: &mut [u8]) -> Result<usize, Failed> {
         let count = self.source.read(buf)?;
-        if count == 0 && !buf.is_empty() && self.ended.is_none() {
-            self.ended = Some(self.sent);
-        }
+        self.ended = noted_after(self.ended, self.sent, count, buf.len());
         Ok(count)
     }
 

@@ -1,3 +1,5 @@
+ghost use Rattle.std.specs.Prelude.{◌≡◌, ℕ};
+
 use super::*;
 use proto_wire::OutOfMemory;
 use std::alloc::Global;
@@ -34,8 +36,15 @@ fn drain<S: Source>(source: &mut S, buf: &mut [u8]) -> (usize, usize) {
 fn call<L: Link>(link: &mut L, bytes: Option<&[u8]>, buf: &mut [u8]) -> Result<usize, SinkEnd> {
     match bytes {
         Some(bytes) => link.write(bytes),
-        None => Ok(link.read(buf)?),
+        None => Ok(read_noting(link, buf)?),
     }
+}
+
+// Reads. Where that finds the end of a link that tells it, what is noted is what had been written.
+fn read_noting<L: Link>(link: &mut L, buf: &mut [u8]) -> Result<usize, Failed>
+    ensures { (n : ℕ) → L.at_end link.old ≡ Some None → L.at_end link.new ≡ Some (Some n) → L.sent link.old ≡ Some n }
+{
+    link.read(buf)
 }
 
 // A reader that gives one byte a call, but for the call that is interrupted and the one that fails, counted from 0.
@@ -65,6 +74,29 @@ impl<'a> Read for Uneven<'a> {
             }
             _ => Ok(0),
         }
+    }
+}
+
+// A reader and a writer in one value.
+#[derive(Drop)]
+struct Duplex<R: Read, W: Write> {
+    reader: R,
+    writer: W,
+}
+
+impl<R: Read, W: Write> Read for Duplex<R, W> {
+    fn read(&mut self, buf: &mut [u8]) -> io::Result<usize> {
+        self.reader.read(buf)
+    }
+}
+
+impl<R: Read, W: Write> Write for Duplex<R, W> {
+    fn write(&mut self, buf: &[u8]) -> io::Result<usize> {
+        self.writer.write(buf)
+    }
+
+    fn flush(&mut self) -> io::Result<()> {
+        self.writer.flush()
     }
 }
 
@@ -173,6 +205,38 @@ fn a_pair_writes_what_it_is_given(rt: HostRuntime) -> Result<(), Fail> {
     assert_eq!(rt; call(&mut pair, None, &mut buf), Ok(3));
     assert_eq!(rt; call(&mut pair, Some(b"z"), &mut buf), Ok(1));
     drop(pair);
+    assert_eq!(rt; out.as_slice(), &b"xyz"[..]);
+    Ok(())
+}
+
+#[test]
+fn a_stream_reads_and_writes_one_value(rt: HostRuntime) -> Result<(), Fail> {
+    let mut out = Vec::new(rt.alloc());
+    // The second read is interrupted and made again, and then fails.
+    let reader = Uneven {
+        bytes: b"ab",
+        calls: 0,
+        interrupted: 1,
+        broken: 2,
+    };
+    let mut link = StreamLink::new(Duplex {
+        reader,
+        writer: &mut out,
+    });
+    // what is written, or none for a read, and the answer
+    let calls: [(Option<&[u8]>, Result<usize, SinkEnd>); 6] = [
+        (Some(b"xy"), Ok(2)),
+        (None, Ok(1)),
+        (None, Err(SinkEnd::Failed)),
+        (None, Ok(1)),
+        (None, Ok(0)),
+        (Some(b"z"), Ok(1)),
+    ];
+    for (number, (bytes, want)) in calls.into_iter().enumerate() {
+        let mut buf = [0u8; 4];
+        assert_eq!(rt; call(&mut link, bytes, &mut buf), want, "call {number}");
+    }
+    drop(link);
     assert_eq!(rt; out.as_slice(), &b"xyz"[..]);
     Ok(())
 }
