@@ -7,3 +7,4 @@ pub mod DigestShort
 pub mod Rows
 pub mod EachKind
 pub mod WrittenAgain
+pub mod Parts

@@ -1,13 +1,13 @@
 -- Writing values one after the other, as a loop does.
-use Rattle.std.proofs.Common.{◌≡◌, ℕ, ◌+◌, ◌<◌, ◌≤◌, ℤ, List, [], ◌∷◌, ◌++◌, length, map, get_or, take, refl, sym, ap, subst, ◌∙◌, append_assoc}
+use Rattle.std.proofs.Common.{◌≡◌, ℕ, ◌+◌, ◌<◌, ◌≤◌, ℤ, List, [], ◌∷◌, ◌++◌, length, map, get_or, take, drop, take-append-drop, refl, sym, ap, subst, ◌∙◌, append_assoc}
 use Rattle.std.specs.List.{AllByRecursion, flat_map}
-use Rattle.std.specs.Result.{OnOk}
+use Rattle.std.specs.Result.{OnOk, OnErr}
 use Rattle.std.specs.Prelude.{Result, Ok, Err, FitsSigned}
 use Rattle.std.specs.Int.{w32, w64, cast_unsigned}
-use Rattle.std.proofs.lemmas.List.{append-nil, take_more, take_all, map_more}
+use Rattle.std.proofs.lemmas.List.{append-nil, take_more, take_all, map_more, take-map}
 use Rattle.std.proofs.lemmas.List.Concat.{flat_map-append}
 use Rattle.proto_wire.specs.Spelling.{varint}
-use Rattle.cas_messages.specs.Spelling.{packed_content}
+use Rattle.cas_messages.specs.Spelling.{packed_content, AddsPart}
 use Rattle.cas_messages.specs.Fits.{Short}
 
 -- what holds anyway holds after a step that may fail
@@ -50,3 +50,13 @@ packed_fits r values i numbers content past fits so_far packed short =
     let all : take i values ≡ values = take_all i values past in
     let whole : content ≡ packed_content values = packed ∙ ap (flat_map varint) (so_far ∙ ap (map (cast_unsigned w64)) all) in
     on_ok_from r (λ s. (subst (AllByRecursion (FitsSigned w32)) all fits, subst Short whole s)) short
+
+-- where a value of a list is refused, a prefix of the list is written
+pub list_part : {T E X : Type 0} (r : Result T E) (f : X → List ℕ) (xs : List X) (i : ℕ) (start out new : List ℕ) → out ≡ start ++ flat_map f (take i xs) → new ≡ out → OnErr r (AddsPart start new (flat_map f xs))
+list_part (Ok x) f xs i start out new so_far same = tt
+list_part (Err e) f xs i start out new so_far same =
+    let whole : flat_map f xs ≡ flat_map f (take i xs) ++ flat_map f (drop i xs) = sym (ap (flat_map f) (take-append-drop i xs)) ∙ flat_map-append f (take i xs) (drop i xs) in
+    record { part = flat_map f (take i xs); rest = flat_map f (drop i xs); adds = same ∙ so_far; whole = whole }
+
+pub mapped_part : {T E X Y : Type 0} (r : Result T E) (f : Y → List ℕ) (view : X → Y) (xs : List X) (i : ℕ) (start out new : List ℕ) → out ≡ start ++ flat_map f (map view (take i xs)) → new ≡ out → OnErr r (AddsPart start new (flat_map f (map view xs)))
+mapped_part r f view xs i start out new so_far same = list_part r f (map view xs) i start out new (so_far ∙ ap (λ ys. start ++ flat_map f ys) (sym (take-map view i xs))) same

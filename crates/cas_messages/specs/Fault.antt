@@ -1,4 +1,4 @@
--- The faults of messages: how one step follows another, and what a refusal of the code says.
+-- The faults of messages: how reading goes on or stops, and what a refusal of the code says.
 use Rattle.std.specs.Prelude.{◌≡◌, ℕ, Result, Ok, Err}
 use Rattle.proto_wire.specs.declared.fault.WireError.{WireError}
 use Rattle.proto_wire.specs.declared.fault.WireError.TheVariants as wire
@@ -25,7 +25,7 @@ abbrev pub Gives : {X Y : Type 0} → (X → Y) → Result X MessageError → Re
 Gives view (Ok x) read = read ≡ Ok (view x)
 Gives view (Err e) read = Fails e read
 
--- bytes that are no row of fields, in the content of a field, or 0 for the message itself
+-- bytes that aren't a sequence of fields, in the content of a field, or 0 for the message itself
 abbrev pub wire_fault : ℕ → WireError → MessageError
 wire_fault field wire.OutOfMemory = errors.OutOfMemory
 wire_fault field (wire.Truncated at) = errors.Wire field (wire.Truncated at)
@@ -41,7 +41,7 @@ digest_fault field index digests.BadHash = errors.BadDigest field index
 digest_fault field index digests.NegativeSize = errors.BadDigest field index
 digest_fault field index digests.BadSize = errors.BadDigest field index
 
--- a fault inside of the message at this position of a field is one of that field
+-- a fault of the message embedded at this position of a field is one of that field
 abbrev pub inside : ℕ → ℕ → MessageError → MessageError
 inside field index errors.OutOfMemory = errors.OutOfMemory
 inside field index (errors.Wire inner e) = errors.Wire field e

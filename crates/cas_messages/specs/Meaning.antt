@@ -12,7 +12,7 @@ use Rattle.cas_messages.specs.declared.error.MessageError.TheVariants as errors
 use Rattle.cas_messages.specs.Fault.{◌>>=◌, wire_fault, digest_fault, inside, with_fault}
 use Rattle.cas_messages.specs.Table.{Kind, int32, int64, bool, text, bytes, digest, optional_digest, int32_list, text_list, bytes_list, digest_list, Of, Table, end, field, message, message_list, Value}
 
--- the last varint of a number counts; an absent one is 0
+-- the last varint of a number counts; a missing one is 0
 abbrev pub int_at : ℕ → List WireField → ℕ
 int_at number fs = unwrap_or (last_of (ints number fs)) 0
 
@@ -20,7 +20,7 @@ int_at number fs = unwrap_or (last_of (ints number fs)) 0
 abbrev pub int32_of : ℕ → ℤ
 int32_of n = cast_signed w32 (n % 2 ^ 32)
 
--- the last content of a number counts; an absent one is empty
+-- the last content of a number counts; a missing one is empty
 abbrev pub content_at : ℕ → List WireField → List ℕ
 content_at number fs = unwrap_or (last_of (contents_of number fs)) []
 
@@ -32,12 +32,12 @@ text_from number b = if is_utf8 b then Ok b else Err (errors.NotUtf8 number)
 abbrev pub digest_from : ℕ → ℕ → List ℕ → Result HashAndSize MessageError
 digest_from number index b = with_fault (digest_fault number index) (digest_in b)
 
--- the digest that a message must have
+-- a required digest
 abbrev pub digest_by : ℕ → Option (List ℕ) → Result HashAndSize MessageError
 digest_by number None = Err (errors.BadDigest number 0)
 digest_by number (Some b) = digest_from number 0 b
 
--- the digest that a message may lack
+-- an optional digest
 abbrev pub optional_by : ℕ → Option (List ℕ) → Result (Option HashAndSize) MessageError
 optional_by number None = Ok None
 optional_by number (Some b) = digest_from number 0 b >>= λ d. Ok (Some d)
@@ -68,8 +68,8 @@ field_in digest_list number fs = each (digest_from number) 0 (contents_of number
 abbrev pub message_by : {A : Type 0} → (List WireField → Result A MessageError) → List ℕ → Result A MessageError
 message_by read b = with_fault (wire_fault 0) (fields_of b) >>= read
 
--- The message of this number, whose fields are read so: the contents of all its fields are joined, which merges them; an
--- absent one is empty.
+-- The message of this number, whose fields are read so: the contents of all its fields are joined, which merges them; a
+-- missing one has an empty content.
 abbrev pub one_in : {A : Type 0} → (List WireField → Result A MessageError) → ℕ → List WireField → Result A MessageError
 one_in read number fs = with_fault (inside number 0) (message_by read (unwrap_or (joined_of (contents_of number fs)) []))
 

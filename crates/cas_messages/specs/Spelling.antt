@@ -1,5 +1,5 @@
 -- Messages as this project writes them: by ascending number, with the shortest varints, and without defaults.
-use Rattle.std.specs.Prelude.{◌==◌, map, ℕ, ℤ, List, [], ◌∷◌, ◌++◌, Option, Some, None, if◌then◌else◌}
+use Rattle.std.specs.Prelude.{◌≡◌, ◌==◌, map, ℕ, ℤ, List, [], ◌∷◌, ◌++◌, Option, Some, None, if◌then◌else◌}
 use Rattle.std.specs.Int.{w64, cast_unsigned}
 use Rattle.std.specs.List.{flat_map}
 use Rattle.proto_wire.specs.Spelling.{varint, int_field, bytes_field}
@@ -46,3 +46,10 @@ spelled end v = []
 spelled (field number kind rows) v = field_spelled kind number v.0 ++ spelled rows v.1
 spelled (message number inner rows) v = bytes_field number (spelled inner v.0) ++ spelled rows v.1
 spelled (message_list number inner rows) v = flat_map (λ m. bytes_field number (spelled inner m)) v.0 ++ spelled rows v.1
+
+-- A prefix of the bytes was added to what was there.
+pub record AddsPart (old new added : List ℕ) : Type 0 where
+  pub part : List ℕ
+  pub rest : List ℕ
+  pub adds : new ≡ old ++ part
+  pub whole : added ≡ part ++ rest

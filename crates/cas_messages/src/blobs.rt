@@ -14,10 +14,10 @@ use crate::put::{
 };
 use crate::status::RpcStatus;
 use digest_types::{Digest, Digests};
-use proto_wire::{Bytes, Fields, OutOfMemory, Text, Writer};
+use proto_wire::{Bytes, Fields, Listed, OutOfMemory, Text, Writer};
 use std::alloc::Global;
 
-/// Which of these blobs are missing?
+/// Asks which of these blobs are missing.
 #[derive(Debug, Drop)]
 pub struct FindMissingBlobsRequest {
     pub instance_name: Text,
@@ -42,7 +42,7 @@ impl Message for FindMissingBlobsRequest {
         })
     }
 
-    #[tactic(auto, unfolding(crate::specs::Spelling::spelled))]
+    #[tactic(auto, using(crate::proofs::Parts::parts), unfolding(crate::specs::Spelling::spelled))]
     fn write_fields(&self, alloc: Global, out: &mut Writer) -> Result<(), OutOfMemory> {
         put_text(out, 1, &self.instance_name)?;
         put_digests(alloc, out, 2, self.blob_digests.as_slice())?;
@@ -73,7 +73,7 @@ impl Message for FindMissingBlobsResponse {
         })
     }
 
-    #[tactic(auto, unfolding(crate::specs::Spelling::spelled))]
+    #[tactic(auto, using(crate::proofs::Parts::parts), unfolding(crate::specs::Spelling::spelled))]
     fn write_fields(&self, alloc: Global, out: &mut Writer) -> Result<(), OutOfMemory> {
         put_digests(alloc, out, 2, self.missing_blob_digests.as_slice())
     }
@@ -81,7 +81,7 @@ impl Message for FindMissingBlobsResponse {
     ghost ascends = { refl };
 }
 
-/// A blob to put: its digest as declared, and its bytes.
+/// A blob to put: the declared digest, and the bytes.
 #[derive(Debug, Drop)]
 pub struct BatchUpdateBlobsRequestItem2 {
     pub digest: Digest,
@@ -106,7 +106,7 @@ impl Message for BatchUpdateBlobsRequestItem2 {
         })
     }
 
-    #[tactic(auto, unfolding(crate::specs::Spelling::spelled))]
+    #[tactic(auto, using(crate::proofs::Parts::parts), unfolding(crate::specs::Spelling::spelled))]
     fn write_fields(&self, alloc: Global, out: &mut Writer) -> Result<(), OutOfMemory> {
         put_digest(alloc, out, 1, &self.digest)?;
         put_bytes(out, 2, &self.bytes)?;
@@ -120,14 +120,14 @@ impl Message for BatchUpdateBlobsRequestItem2 {
 #[derive(Debug, Drop)]
 pub struct BatchUpdateBlobsRequest {
     pub instance_name: Text,
-    pub requests: Vec<BatchUpdateBlobsRequestItem2>,
+    pub requests: Listed<BatchUpdateBlobsRequestItem2>,
     pub digest_function: i32,
 }
 
 impl Message for BatchUpdateBlobsRequest {
     ghost table = { Tables.batch_update_blobs_request };
 
-    ghost value = { λ m. m.instance_name & map ⟦<BatchUpdateBlobsRequestItem2 as Message>⟧.value m.requests.items & m.digest_function & tt };
+    ghost value = { λ m. m.instance_name & map ⟦<BatchUpdateBlobsRequestItem2 as Message>⟧.value m.requests & m.digest_function & tt };
 
     #[tactic(auto, unfolding(crate::specs::Meaning::fields_in))]
     fn read_fields(
@@ -141,17 +141,17 @@ impl Message for BatchUpdateBlobsRequest {
         })
     }
 
-    #[tactic(auto, unfolding(crate::specs::Spelling::spelled))]
+    #[tactic(auto, using(crate::proofs::Parts::parts), unfolding(crate::specs::Spelling::spelled))]
     fn write_fields(&self, alloc: Global, out: &mut Writer) -> Result<(), OutOfMemory> {
         put_text(out, 1, &self.instance_name)?;
-        put_messages(alloc, out, 2, &self.requests)?;
+        put_messages(alloc, out, 2, self.requests.as_slice())?;
         put_int32(out, 5, self.digest_function)
     }
 
     ghost ascends = { refl };
 }
 
-/// What became of a blob.
+/// The result of putting one blob.
 #[derive(Debug, Drop)]
 pub struct BatchUpdateBlobsResponseItem1 {
     pub digest: Digest,
@@ -174,7 +174,7 @@ impl Message for BatchUpdateBlobsResponseItem1 {
         })
     }
 
-    #[tactic(auto, unfolding(crate::specs::Spelling::spelled))]
+    #[tactic(auto, using(crate::proofs::Parts::parts), unfolding(crate::specs::Spelling::spelled))]
     fn write_fields(&self, alloc: Global, out: &mut Writer) -> Result<(), OutOfMemory> {
         put_digest(alloc, out, 1, &self.digest)?;
         put_message(alloc, out, 2, &self.status)
@@ -183,16 +183,16 @@ impl Message for BatchUpdateBlobsResponseItem1 {
     ghost ascends = { refl };
 }
 
-/// What became of each blob.
+/// The result of putting each blob.
 #[derive(Debug, Drop)]
 pub struct BatchUpdateBlobsResponse {
-    pub responses: Vec<BatchUpdateBlobsResponseItem1>,
+    pub responses: Listed<BatchUpdateBlobsResponseItem1>,
 }
 
 impl Message for BatchUpdateBlobsResponse {
     ghost table = { Tables.batch_update_blobs_response };
 
-    ghost value = { λ m. map ⟦<BatchUpdateBlobsResponseItem1 as Message>⟧.value m.responses.items & tt };
+    ghost value = { λ m. map ⟦<BatchUpdateBlobsResponseItem1 as Message>⟧.value m.responses & tt };
 
     #[tactic(auto, unfolding(crate::specs::Meaning::fields_in))]
     fn read_fields(
@@ -204,9 +204,9 @@ impl Message for BatchUpdateBlobsResponse {
         })
     }
 
-    #[tactic(auto, unfolding(crate::specs::Spelling::spelled))]
+    #[tactic(auto, using(crate::proofs::Parts::parts), unfolding(crate::specs::Spelling::spelled))]
     fn write_fields(&self, alloc: Global, out: &mut Writer) -> Result<(), OutOfMemory> {
-        put_messages(alloc, out, 1, &self.responses)
+        put_messages(alloc, out, 1, self.responses.as_slice())
     }
 
     ghost ascends = { refl };
@@ -217,14 +217,14 @@ impl Message for BatchUpdateBlobsResponse {
 pub struct BatchReadBlobsRequest {
     pub instance_name: Text,
     pub digests: Digests,
-    pub acceptable_compressors: Vec<i32>,
+    pub acceptable_compressors: Listed<i32>,
     pub digest_function: i32,
 }
 
 impl Message for BatchReadBlobsRequest {
     ghost table = { Tables.batch_read_blobs_request };
 
-    ghost value = { λ m. m.instance_name & m.digests & m.acceptable_compressors.items & m.digest_function & tt };
+    ghost value = { λ m. m.instance_name & m.digests & m.acceptable_compressors & m.digest_function & tt };
 
     #[tactic(auto, unfolding(crate::specs::Meaning::fields_in))]
     fn read_fields(
@@ -239,18 +239,18 @@ impl Message for BatchReadBlobsRequest {
         })
     }
 
-    #[tactic(auto, unfolding(crate::specs::Spelling::spelled))]
+    #[tactic(auto, using(crate::proofs::Parts::parts), unfolding(crate::specs::Spelling::spelled))]
     fn write_fields(&self, alloc: Global, out: &mut Writer) -> Result<(), OutOfMemory> {
         put_text(out, 1, &self.instance_name)?;
         put_digests(alloc, out, 2, self.digests.as_slice())?;
-        put_int32s(alloc, out, 3, &self.acceptable_compressors)?;
+        put_int32s(alloc, out, 3, self.acceptable_compressors.as_slice())?;
         put_int32(out, 4, self.digest_function)
     }
 
     ghost ascends = { refl };
 }
 
-/// A blob with its bytes, or why there are none.
+/// A blob's bytes, or the status that says why they can't be read.
 #[derive(Debug, Drop)]
 pub struct BatchReadBlobsResponseItem1 {
     pub digest: Digest,
@@ -277,7 +277,7 @@ impl Message for BatchReadBlobsResponseItem1 {
         })
     }
 
-    #[tactic(auto, unfolding(crate::specs::Spelling::spelled))]
+    #[tactic(auto, using(crate::proofs::Parts::parts), unfolding(crate::specs::Spelling::spelled))]
     fn write_fields(&self, alloc: Global, out: &mut Writer) -> Result<(), OutOfMemory> {
         put_digest(alloc, out, 1, &self.digest)?;
         put_bytes(out, 2, &self.bytes)?;
@@ -289,16 +289,16 @@ impl Message for BatchReadBlobsResponseItem1 {
     ghost ascends = { refl };
 }
 
-/// The blobs that were asked.
+/// The requested blobs.
 #[derive(Debug, Drop)]
 pub struct BatchReadBlobsResponse {
-    pub responses: Vec<BatchReadBlobsResponseItem1>,
+    pub responses: Listed<BatchReadBlobsResponseItem1>,
 }
 
 impl Message for BatchReadBlobsResponse {
     ghost table = { Tables.batch_read_blobs_response };
 
-    ghost value = { λ m. map ⟦<BatchReadBlobsResponseItem1 as Message>⟧.value m.responses.items & tt };
+    ghost value = { λ m. map ⟦<BatchReadBlobsResponseItem1 as Message>⟧.value m.responses & tt };
 
     #[tactic(auto, unfolding(crate::specs::Meaning::fields_in))]
     fn read_fields(
@@ -310,9 +310,9 @@ impl Message for BatchReadBlobsResponse {
         })
     }
 
-    #[tactic(auto, unfolding(crate::specs::Spelling::spelled))]
+    #[tactic(auto, using(crate::proofs::Parts::parts), unfolding(crate::specs::Spelling::spelled))]
     fn write_fields(&self, alloc: Global, out: &mut Writer) -> Result<(), OutOfMemory> {
-        put_messages(alloc, out, 1, &self.responses)
+        put_messages(alloc, out, 1, self.responses.as_slice())
     }
 
     ghost ascends = { refl };

@@ -11,7 +11,7 @@ use crate::put::{put_bool, put_bytes, put_int64, put_text};
 use proto_wire::{Bytes, Fields, OutOfMemory, Text, Writer};
 use std::alloc::Global;
 
-/// A part of a resource to read. A limit of 0 is none.
+/// Asks for a part of a resource. The offset and the limit are in bytes; a limit of 0 means no limit.
 #[derive(Debug, Drop)]
 pub struct ReadRequest {
     pub resource_name: Text,
@@ -33,7 +33,7 @@ impl Message for ReadRequest {
         })
     }
 
-    #[tactic(auto, unfolding(crate::specs::Spelling::spelled))]
+    #[tactic(auto, using(crate::proofs::Parts::parts), unfolding(crate::specs::Spelling::spelled))]
     fn write_fields(&self, _alloc: Global, out: &mut Writer) -> Result<(), OutOfMemory> {
         put_text(out, 1, &self.resource_name)?;
         put_int64(out, 2, self.read_offset)?;
@@ -61,7 +61,7 @@ impl Message for ReadResponse {
         })
     }
 
-    #[tactic(auto, unfolding(crate::specs::Spelling::spelled))]
+    #[tactic(auto, using(crate::proofs::Parts::parts), unfolding(crate::specs::Spelling::spelled))]
     fn write_fields(&self, _alloc: Global, out: &mut Writer) -> Result<(), OutOfMemory> {
         put_bytes(out, 10, &self.bytes)
     }
@@ -93,7 +93,7 @@ impl Message for WriteRequest {
         })
     }
 
-    #[tactic(auto, unfolding(crate::specs::Spelling::spelled))]
+    #[tactic(auto, using(crate::proofs::Parts::parts), unfolding(crate::specs::Spelling::spelled))]
     fn write_fields(&self, _alloc: Global, out: &mut Writer) -> Result<(), OutOfMemory> {
         put_text(out, 1, &self.resource_name)?;
         put_int64(out, 2, self.write_offset)?;
@@ -104,7 +104,7 @@ impl Message for WriteRequest {
     ghost ascends = { refl };
 }
 
-/// How many bytes were taken.
+/// How many bytes were committed.
 #[derive(Debug, Drop)]
 pub struct WriteResponse {
     pub committed_size: i64,
@@ -122,7 +122,7 @@ impl Message for WriteResponse {
         })
     }
 
-    #[tactic(auto, unfolding(crate::specs::Spelling::spelled))]
+    #[tactic(auto, using(crate::proofs::Parts::parts), unfolding(crate::specs::Spelling::spelled))]
     fn write_fields(&self, _alloc: Global, out: &mut Writer) -> Result<(), OutOfMemory> {
         put_int64(out, 1, self.committed_size)
     }
@@ -130,7 +130,7 @@ impl Message for WriteResponse {
     ghost ascends = { refl };
 }
 
-/// How far did the write of a resource come?
+/// Asks how much of a resource has been written.
 #[derive(Debug, Drop)]
 pub struct QueryWriteStatusRequest {
     pub resource_name: Text,
@@ -151,7 +151,7 @@ impl Message for QueryWriteStatusRequest {
         })
     }
 
-    #[tactic(auto, unfolding(crate::specs::Spelling::spelled))]
+    #[tactic(auto, using(crate::proofs::Parts::parts), unfolding(crate::specs::Spelling::spelled))]
     fn write_fields(&self, _alloc: Global, out: &mut Writer) -> Result<(), OutOfMemory> {
         put_text(out, 1, &self.resource_name)
     }
@@ -159,7 +159,7 @@ impl Message for QueryWriteStatusRequest {
     ghost ascends = { refl };
 }
 
-/// How many bytes were taken, and whether they are all.
+/// How many bytes were committed, and whether the write is complete.
 #[derive(Debug, Drop)]
 pub struct QueryWriteStatusResponse {
     pub committed_size: i64,
@@ -182,7 +182,7 @@ impl Message for QueryWriteStatusResponse {
         })
     }
 
-    #[tactic(auto, unfolding(crate::specs::Spelling::spelled))]
+    #[tactic(auto, using(crate::proofs::Parts::parts), unfolding(crate::specs::Spelling::spelled))]
     fn write_fields(&self, _alloc: Global, out: &mut Writer) -> Result<(), OutOfMemory> {
         put_int64(out, 1, self.committed_size)?;
         put_bool(out, 2, self.complete)

@@ -8,10 +8,10 @@ use crate::error::MessageError;
 use crate::get::{int32_in, int32s_in, int64_in, message_in, text_in};
 use crate::message::Message;
 use crate::put::{put_int32, put_int32s, put_int64, put_message, put_text};
-use proto_wire::{Fields, OutOfMemory, Text, Writer};
+use proto_wire::{Fields, Listed, OutOfMemory, Text, Writer};
 use std::alloc::Global;
 
-/// What does the server do?
+/// Asks for the server's capabilities.
 #[derive(Debug, Drop)]
 pub struct GetCapabilitiesRequest {
     pub instance_name: Text,
@@ -32,7 +32,7 @@ impl Message for GetCapabilitiesRequest {
         })
     }
 
-    #[tactic(auto, unfolding(crate::specs::Spelling::spelled))]
+    #[tactic(auto, using(crate::proofs::Parts::parts), unfolding(crate::specs::Spelling::spelled))]
     fn write_fields(&self, _alloc: Global, out: &mut Writer) -> Result<(), OutOfMemory> {
         put_text(out, 1, &self.instance_name)
     }
@@ -62,7 +62,7 @@ impl Message for SemVer {
         })
     }
 
-    #[tactic(auto, unfolding(crate::specs::Spelling::spelled))]
+    #[tactic(auto, using(crate::proofs::Parts::parts), unfolding(crate::specs::Spelling::spelled))]
     fn write_fields(&self, _alloc: Global, out: &mut Writer) -> Result<(), OutOfMemory> {
         put_int32(out, 1, self.major)?;
         put_int32(out, 2, self.minor)?;
@@ -73,10 +73,10 @@ impl Message for SemVer {
     ghost ascends = { refl };
 }
 
-/// What the store does.
+/// What the cache supports.
 #[derive(Debug, Drop)]
 pub struct CacheCapabilities {
-    pub digest_functions: Vec<i32>,
+    pub digest_functions: Listed<i32>,
     pub max_batch_total_size_bytes: i64,
     pub symlink_absolute_path_strategy: i32,
 }
@@ -84,7 +84,7 @@ pub struct CacheCapabilities {
 impl Message for CacheCapabilities {
     ghost table = { Tables.cache_capabilities };
 
-    ghost value = { λ m. m.digest_functions.items & m.max_batch_total_size_bytes & m.symlink_absolute_path_strategy & tt };
+    ghost value = { λ m. m.digest_functions & m.max_batch_total_size_bytes & m.symlink_absolute_path_strategy & tt };
 
     #[tactic(auto, unfolding(crate::specs::Meaning::fields_in))]
     fn read_fields(alloc: Global, fields: &Fields<'_>) -> Result<CacheCapabilities, MessageError> {
@@ -95,9 +95,9 @@ impl Message for CacheCapabilities {
         })
     }
 
-    #[tactic(auto, unfolding(crate::specs::Spelling::spelled))]
+    #[tactic(auto, using(crate::proofs::Parts::parts), unfolding(crate::specs::Spelling::spelled))]
     fn write_fields(&self, alloc: Global, out: &mut Writer) -> Result<(), OutOfMemory> {
-        put_int32s(alloc, out, 1, &self.digest_functions)?;
+        put_int32s(alloc, out, 1, self.digest_functions.as_slice())?;
         put_int64(out, 4, self.max_batch_total_size_bytes)?;
         put_int32(out, 5, self.symlink_absolute_path_strategy)
     }
@@ -105,7 +105,7 @@ impl Message for CacheCapabilities {
     ghost ascends = { refl };
 }
 
-/// What the server does, and the versions of the API that it speaks.
+/// The server's capabilities, and the lowest and the highest version of the API that it supports.
 #[derive(Debug, Drop)]
 pub struct ServerCapabilities {
     pub cache_capabilities: CacheCapabilities,
@@ -127,7 +127,7 @@ impl Message for ServerCapabilities {
         })
     }
 
-    #[tactic(auto, unfolding(crate::specs::Spelling::spelled))]
+    #[tactic(auto, using(crate::proofs::Parts::parts), unfolding(crate::specs::Spelling::spelled))]
     fn write_fields(&self, alloc: Global, out: &mut Writer) -> Result<(), OutOfMemory> {
         put_message(alloc, out, 1, &self.cache_capabilities)?;
         put_message(alloc, out, 4, &self.low_api_version)?;

@@ -10,22 +10,22 @@ use crate::message::Message;
 use crate::put::{put_bool, put_message, put_messages, put_optional_digest, put_text, put_texts};
 use crate::status::RpcStatus;
 use digest_types::Digest;
-use proto_wire::{Fields, OutOfMemory, Text, Writer};
+use proto_wire::{Fields, Listed, OutOfMemory, Text, Writer};
 use std::alloc::Global;
 
-/// Folders to take in.
+/// Folders to capture.
 #[derive(Debug, Drop)]
 pub struct CaptureTreeRequest {
     pub instance_name: Text,
-    pub path: Vec<Text>,
+    pub path: Listed<Text>,
     pub bypass_local_cache: bool,
-    pub node_properties: Vec<Text>,
+    pub node_properties: Listed<Text>,
 }
 
 impl Message for CaptureTreeRequest {
     ghost table = { Tables.capture_tree_request };
 
-    ghost value = { λ m. m.instance_name & m.path.items & m.bypass_local_cache & m.node_properties.items & tt };
+    ghost value = { λ m. m.instance_name & m.path & m.bypass_local_cache & m.node_properties & tt };
 
     #[tactic(auto, unfolding(crate::specs::Meaning::fields_in))]
     fn read_fields(alloc: Global, fields: &Fields<'_>) -> Result<CaptureTreeRequest, MessageError> {
@@ -37,18 +37,18 @@ impl Message for CaptureTreeRequest {
         })
     }
 
-    #[tactic(auto, unfolding(crate::specs::Spelling::spelled))]
+    #[tactic(auto, using(crate::proofs::Parts::parts), unfolding(crate::specs::Spelling::spelled))]
     fn write_fields(&self, _alloc: Global, out: &mut Writer) -> Result<(), OutOfMemory> {
         put_text(out, 1, &self.instance_name)?;
-        put_texts(out, 2, &self.path)?;
+        put_texts(out, 2, self.path.as_slice())?;
         put_bool(out, 3, self.bypass_local_cache)?;
-        put_texts(out, 4, &self.node_properties)
+        put_texts(out, 4, self.node_properties.as_slice())
     }
 
     ghost ascends = { refl };
 }
 
-/// The digest of the Tree of a folder, or why there is none. The path is the one asked.
+/// The digest of a captured folder's Tree, or the status that says why there is none. The path is the request's.
 #[derive(Debug, Drop)]
 pub struct CaptureTreeResponseItem1 {
     pub path: Text,
@@ -73,7 +73,7 @@ impl Message for CaptureTreeResponseItem1 {
         })
     }
 
-    #[tactic(auto, unfolding(crate::specs::Spelling::spelled))]
+    #[tactic(auto, using(crate::proofs::Parts::parts), unfolding(crate::specs::Spelling::spelled))]
     fn write_fields(&self, alloc: Global, out: &mut Writer) -> Result<(), OutOfMemory> {
         put_text(out, 1, &self.path)?;
         put_optional_digest(alloc, out, 2, &self.tree_digest)?;
@@ -83,16 +83,16 @@ impl Message for CaptureTreeResponseItem1 {
     ghost ascends = { refl };
 }
 
-/// What became of each folder.
+/// The result for each folder.
 #[derive(Debug, Drop)]
 pub struct CaptureTreeResponse {
-    pub responses: Vec<CaptureTreeResponseItem1>,
+    pub responses: Listed<CaptureTreeResponseItem1>,
 }
 
 impl Message for CaptureTreeResponse {
     ghost table = { Tables.capture_tree_response };
 
-    ghost value = { λ m. map ⟦<CaptureTreeResponseItem1 as Message>⟧.value m.responses.items & tt };
+    ghost value = { λ m. map ⟦<CaptureTreeResponseItem1 as Message>⟧.value m.responses & tt };
 
     #[tactic(auto, unfolding(crate::specs::Meaning::fields_in))]
     fn read_fields(
@@ -104,27 +104,27 @@ impl Message for CaptureTreeResponse {
         })
     }
 
-    #[tactic(auto, unfolding(crate::specs::Spelling::spelled))]
+    #[tactic(auto, using(crate::proofs::Parts::parts), unfolding(crate::specs::Spelling::spelled))]
     fn write_fields(&self, alloc: Global, out: &mut Writer) -> Result<(), OutOfMemory> {
-        put_messages(alloc, out, 1, &self.responses)
+        put_messages(alloc, out, 1, self.responses.as_slice())
     }
 
     ghost ascends = { refl };
 }
 
-/// Files to take in.
+/// Files to capture.
 #[derive(Debug, Drop)]
 pub struct CaptureFilesRequest {
     pub instance_name: Text,
-    pub path: Vec<Text>,
+    pub path: Listed<Text>,
     pub bypass_local_cache: bool,
-    pub node_properties: Vec<Text>,
+    pub node_properties: Listed<Text>,
 }
 
 impl Message for CaptureFilesRequest {
     ghost table = { Tables.capture_files_request };
 
-    ghost value = { λ m. m.instance_name & m.path.items & m.bypass_local_cache & m.node_properties.items & tt };
+    ghost value = { λ m. m.instance_name & m.path & m.bypass_local_cache & m.node_properties & tt };
 
     #[tactic(auto, unfolding(crate::specs::Meaning::fields_in))]
     fn read_fields(
@@ -139,18 +139,18 @@ impl Message for CaptureFilesRequest {
         })
     }
 
-    #[tactic(auto, unfolding(crate::specs::Spelling::spelled))]
+    #[tactic(auto, using(crate::proofs::Parts::parts), unfolding(crate::specs::Spelling::spelled))]
     fn write_fields(&self, _alloc: Global, out: &mut Writer) -> Result<(), OutOfMemory> {
         put_text(out, 1, &self.instance_name)?;
-        put_texts(out, 2, &self.path)?;
+        put_texts(out, 2, self.path.as_slice())?;
         put_bool(out, 3, self.bypass_local_cache)?;
-        put_texts(out, 4, &self.node_properties)
+        put_texts(out, 4, self.node_properties.as_slice())
     }
 
     ghost ascends = { refl };
 }
 
-/// The digest of a file, or why there is none. The path is the one asked.
+/// The digest of a captured file, or the status that says why there is none. The path is the request's.
 #[derive(Debug, Drop)]
 pub struct CaptureFilesResponseItem1 {
     pub path: Text,
@@ -177,7 +177,7 @@ impl Message for CaptureFilesResponseItem1 {
         })
     }
 
-    #[tactic(auto, unfolding(crate::specs::Spelling::spelled))]
+    #[tactic(auto, using(crate::proofs::Parts::parts), unfolding(crate::specs::Spelling::spelled))]
     fn write_fields(&self, alloc: Global, out: &mut Writer) -> Result<(), OutOfMemory> {
         put_text(out, 1, &self.path)?;
         put_optional_digest(alloc, out, 2, &self.digest)?;
@@ -188,16 +188,16 @@ impl Message for CaptureFilesResponseItem1 {
     ghost ascends = { refl };
 }
 
-/// What became of each file.
+/// The result for each file.
 #[derive(Debug, Drop)]
 pub struct CaptureFilesResponse {
-    pub responses: Vec<CaptureFilesResponseItem1>,
+    pub responses: Listed<CaptureFilesResponseItem1>,
 }
 
 impl Message for CaptureFilesResponse {
     ghost table = { Tables.capture_files_response };
 
-    ghost value = { λ m. map ⟦<CaptureFilesResponseItem1 as Message>⟧.value m.responses.items & tt };
+    ghost value = { λ m. map ⟦<CaptureFilesResponseItem1 as Message>⟧.value m.responses & tt };
 
     #[tactic(auto, unfolding(crate::specs::Meaning::fields_in))]
     fn read_fields(
@@ -209,9 +209,9 @@ impl Message for CaptureFilesResponse {
         })
     }
 
-    #[tactic(auto, unfolding(crate::specs::Spelling::spelled))]
+    #[tactic(auto, using(crate::proofs::Parts::parts), unfolding(crate::specs::Spelling::spelled))]
     fn write_fields(&self, alloc: Global, out: &mut Writer) -> Result<(), OutOfMemory> {
-        put_messages(alloc, out, 1, &self.responses)
+        put_messages(alloc, out, 1, self.responses.as_slice())
     }
 
     ghost ascends = { refl };

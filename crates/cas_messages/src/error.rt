@@ -1,4 +1,4 @@
-//! Why bytes are no message.
+//! Why bytes aren't a message.
 
 ghost use Rattle.std.specs.Prelude.{◌≡◌};
 ghost use Rattle.cas_messages.specs.declared.error.MessageError.TheVariants.{OutOfMemory as NoMemory};
@@ -11,11 +11,11 @@ use std::alloc::{AllocError, AllocFailed};
 /// or 0 for the message itself.
 #[derive(Clone, Copy, Debug, PartialEq, Eq)]
 pub enum MessageError {
-    /// The bytes, or those of a message inside, are no row of fields. Places count in the innermost message.
+    /// The bytes, or those of an embedded message, aren't a sequence of fields. Places count in the innermost message.
     Wire { field: u32, e: WireError },
     /// A text isn't UTF-8.
     NotUtf8 { field: u32 },
-    /// A digest is absent, or is none. `index` is the position in a list, or 0.
+    /// A digest is malformed, or a required one is missing. `index` is its position in a list, or 0.
     BadDigest { field: u32, index: usize },
     OutOfMemory,
 }
@@ -78,7 +78,7 @@ impl MessageError {
         }
     }
 
-    // The fault of a message that stands at this position of a field.
+    // The fault of a message that is embedded at this position of a field.
     pub(crate) fn inside(self, field: u32, index: usize) -> MessageError
         ensures { result ≡ inside field index self }
     {

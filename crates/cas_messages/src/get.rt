@@ -8,7 +8,9 @@ ghost use Rattle.cas_messages.specs.Meaning.{field_in, fields_in, message_in, in
 use crate::error::MessageError;
 use crate::message::Message;
 use digest_types::{Digest, Digests};
-use proto_wire::{Bytes, Fields, Text, contents, joined, last_bytes, last_int, packed, text};
+use proto_wire::{
+    Bytes, Fields, Listed, Text, contents, joined, last_bytes, last_int, packed, text,
+};
 use std::alloc::Global;
 
 /// An int32 or an enum: the low 32 bits, signed.
@@ -87,7 +89,7 @@ fn digest_from(
     }
 }
 
-/// A digest that may be absent.
+/// A digest that may be missing.
 #[tactic(auto, unfolding(crate::specs::Meaning::field_in))]
 pub(crate) fn optional_digest_in(
     alloc: Global,
@@ -102,7 +104,7 @@ pub(crate) fn optional_digest_in(
     Ok(Some(digest_from(alloc, number, 0, bytes.as_slice())?))
 }
 
-/// A digest that must be there.
+/// A required digest.
 #[tactic(auto, unfolding(crate::specs::Meaning::field_in))]
 pub(crate) fn digest_in(
     alloc: Global,
@@ -126,8 +128,8 @@ pub(crate) fn int32s_in(
     alloc: Global,
     fields: &Fields<'_>,
     number: u32,
-) -> Result<Vec<i32>, MessageError>
-    ensures { Gives (λ v. v.items) result (field_in int32_list number fields.now) }
+) -> Result<Listed<i32>, MessageError>
+    ensures { Gives (λ v. v) result (field_in int32_list number fields.now) }
 {
     let numbers = match packed(alloc, fields, number) {
         Ok(numbers) => numbers,
@@ -137,7 +139,7 @@ pub(crate) fn int32s_in(
     'numbers: for n in &numbers {
         values.push(low_bits(*n))?;
     }
-    Ok(values)
+    Ok(Listed::from_vec(values))
 }
 
 /// The texts of a list.
@@ -146,32 +148,32 @@ pub(crate) fn texts_in(
     alloc: Global,
     fields: &Fields<'_>,
     number: u32,
-) -> Result<Vec<Text>, MessageError>
-    ensures { Gives (λ v. v.items) result (field_in text_list number fields.now) }
+) -> Result<Listed<Text>, MessageError>
+    ensures { Gives (λ v. v) result (field_in text_list number fields.now) }
 {
     let contents = contents(alloc, fields, number)?;
     let mut texts = Vec::new(alloc);
     'contents: for content in &contents {
         texts.push(text_from(alloc, number, content)?)?;
     }
-    Ok(texts)
+    Ok(Listed::from_vec(texts))
 }
 
-/// The contents of a list, as they are.
+/// The contents of a list, uninterpreted.
 #[tactic(auto, unfolding(crate::specs::Meaning::field_in))]
 pub(crate) fn contents_in(
     alloc: Global,
     fields: &Fields<'_>,
     number: u32,
-) -> Result<Vec<Bytes>, MessageError>
-    ensures { Gives (λ v. v.items) result (field_in bytes_list number fields.now) }
+) -> Result<Listed<Bytes>, MessageError>
+    ensures { Gives (λ v. v) result (field_in bytes_list number fields.now) }
 {
     let contents = contents(alloc, fields, number)?;
     let mut copies = Vec::new(alloc);
     'contents: for content in &contents {
         copies.push(Bytes::copy_of(alloc, content)?)?;
     }
-    Ok(copies)
+    Ok(Listed::from_vec(copies))
 }
 
 /// The digests of a list.
@@ -206,7 +208,7 @@ fn message_at<T: Message>(
     }
 }
 
-/// A message. An absent one is read from no bytes.
+/// A message. A missing one is read as if its content were empty.
 pub(crate) fn message_in<T: Message>(
     alloc: Global,
     fields: &Fields<'_>,
@@ -223,13 +225,13 @@ pub(crate) fn messages_in<T: Message>(
     alloc: Global,
     fields: &Fields<'_>,
     number: u32,
-) -> Result<Vec<T>, MessageError>
-    ensures { Gives (λ v. map T.value v.items) result (list_in (fields_in T.table) number fields.now) }
+) -> Result<Listed<T>, MessageError>
+    ensures { Gives (λ v. map T.value v) result (list_in (fields_in T.table) number fields.now) }
 {
     let contents = contents(alloc, fields, number)?;
     let mut messages = Vec::new(alloc);
     'contents: for (index, content) in contents.iter().enumerate() {
         messages.push(message_at(alloc, number, index, content)?)?;
     }
-    Ok(messages)
+    Ok(Listed::from_vec(messages))
 }

@@ -1,5 +1,5 @@
-//! The messages of the calls (Remote Execution API v2, ByteStream, and the local calls), read and written by one table:
-//! what each field means, what an absent one is, and how it is spelled are told once for all of them.
+//! The messages of the calls (Remote Execution API v2, ByteStream, and the local calls), each read and written by its
+//! table: what a field means, what a missing one defaults to, and how it is spelled are defined once for all of them.
 #![tactic(auto)]
 
 mod blobs;

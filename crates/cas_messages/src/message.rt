@@ -1,10 +1,10 @@
 //! What all messages have in common.
 
-ghost use Rattle.std.specs.Prelude.{◌≡◌, ◌++◌, IfOk, OnOk, Ok, true};
+ghost use Rattle.std.specs.Prelude.{◌≡◌, ◌++◌, IfOk, OnOk, OnErr, Ok, true};
 ghost use Rattle.cas_messages.specs.Fault.{Gives};
 ghost use Rattle.cas_messages.specs.Table.{Table, Value, is_table};
 ghost use Rattle.cas_messages.specs.Meaning.{fields_in, message_in};
-ghost use Rattle.cas_messages.specs.Spelling.{spelled};
+ghost use Rattle.cas_messages.specs.Spelling.{spelled, AddsPart};
 ghost use Rattle.cas_messages.specs.Fits.{Fits};
 
 use crate::error::MessageError;
@@ -21,12 +21,13 @@ pub trait Message: Sized + Drop {
     fn read_fields(alloc: Global, fields: &Fields<'_>) -> Result<Self, MessageError>
         ensures { Gives value result (fields_in table fields.now) };
 
-    /// Adds the fields to what is written.
+    /// Adds the fields to the output. After want of memory a prefix of them may have been added.
     fn write_fields(&self, alloc: Global, out: &mut Writer) -> Result<(), OutOfMemory>
         ensures wrote { OnOk result (out.new ≡ out.old ++ spelled table (value self.now)) }
-        ensures fits { OnOk result (Fits table (value self.now)) };
+        ensures fits { OnOk result (Fits table (value self.now)) }
+        ensures err { OnErr result (AddsPart out.old out.new (spelled table (value self.now))) };
 
-    // The numbers of the rows ascend.
+    // The numbers of the rows are in ascending order.
     ghost ascends: { is_table 0 table ≡ true };
 
     /// The message that the bytes spell.

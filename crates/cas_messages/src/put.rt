@@ -1,10 +1,11 @@
-//! Fields of each kind, written.
+//! Fields of each kind, written. After want of memory a single field has not been added, and of a list a prefix may
+//! have been.
 
-ghost use Rattle.std.specs.Prelude.{◌≡◌, ◌++◌, ◌<◌, ◌^◌, OnOk, map};
+ghost use Rattle.std.specs.Prelude.{◌≡◌, ◌++◌, ◌<◌, ◌^◌, OnOk, OnErr, map};
 ghost use Rattle.std.specs.List.{flat_map, AllByRecursion};
 ghost use Rattle.proto_wire.specs.Spelling.{bytes_field};
 ghost use Rattle.cas_messages.specs.Table.{int32, int64, bool as flag, text as utf8, bytes as raw, digest, optional_digest, int32_list, text_list, bytes_list, digest_list};
-ghost use Rattle.cas_messages.specs.Spelling.{field_spelled, spelled};
+ghost use Rattle.cas_messages.specs.Spelling.{field_spelled, spelled, AddsPart};
 ghost use Rattle.cas_messages.specs.Fits.{Short, FitsKind, Fits};
 
 use crate::message::Message;
@@ -17,6 +18,7 @@ pub(crate) fn put_int32(out: &mut Writer, number: u32, value: i32) -> Result<(),
     requires low { 0 < number }
     requires high { number < 2 ^ 29 }
     ensures wrote { OnOk result (out.new ≡ out.old ++ field_spelled int32 number value) }
+    ensures err { OnErr result (out.new ≡ out.old) }
     ensures fits { OnOk result (FitsKind int32 value) }
 {
     if value == 0 {
@@ -30,6 +32,7 @@ pub(crate) fn put_int64(out: &mut Writer, number: u32, value: i64) -> Result<(),
     requires low { 0 < number }
     requires high { number < 2 ^ 29 }
     ensures wrote { OnOk result (out.new ≡ out.old ++ field_spelled int64 number value) }
+    ensures err { OnErr result (out.new ≡ out.old) }
     ensures fits { OnOk result (FitsKind int64 value) }
 {
     if value == 0 {
@@ -38,11 +41,12 @@ pub(crate) fn put_int64(out: &mut Writer, number: u32, value: i64) -> Result<(),
     out.int(number, value.cast_unsigned())
 }
 
-/// A bool. A false is left out.
+/// A bool. False is left out.
 pub(crate) fn put_bool(out: &mut Writer, number: u32, value: bool) -> Result<(), OutOfMemory>
     requires low { 0 < number }
     requires high { number < 2 ^ 29 }
     ensures wrote { OnOk result (out.new ≡ out.old ++ field_spelled flag number value) }
+    ensures err { OnErr result (out.new ≡ out.old) }
 {
     if !value {
         return Ok(());
@@ -55,6 +59,7 @@ pub(crate) fn put_text(out: &mut Writer, number: u32, value: &Text) -> Result<()
     requires low { 0 < number }
     requires high { number < 2 ^ 29 }
     ensures wrote { OnOk result (out.new ≡ out.old ++ field_spelled utf8 number value.now) }
+    ensures err { OnErr result (out.new ≡ out.old) }
     ensures fits { OnOk result (FitsKind utf8 value.now) }
 {
     if value.is_empty() {
@@ -68,6 +73,7 @@ pub(crate) fn put_bytes(out: &mut Writer, number: u32, value: &Bytes) -> Result<
     requires low { 0 < number }
     requires high { number < 2 ^ 29 }
     ensures wrote { OnOk result (out.new ≡ out.old ++ field_spelled raw number value.now) }
+    ensures err { OnErr result (out.new ≡ out.old) }
     ensures fits { OnOk result (FitsKind raw value.now) }
 {
     if value.is_empty() {
@@ -86,12 +92,13 @@ pub(crate) fn put_digest(
     requires low { 0 < number }
     requires high { number < 2 ^ 29 }
     ensures wrote { OnOk result (out.new ≡ out.old ++ field_spelled digest number value.now) }
+    ensures err { OnErr result (out.new ≡ out.old) }
     ensures fits { OnOk result (FitsKind digest value.now) }
 {
     out.bytes(number, value.write(alloc)?.as_slice())
 }
 
-/// A digest, where there is one.
+/// A digest, if there is one.
 pub(crate) fn put_optional_digest(
     alloc: Global,
     out: &mut Writer,
@@ -101,6 +108,7 @@ pub(crate) fn put_optional_digest(
     requires low { 0 < number }
     requires high { number < 2 ^ 29 }
     ensures wrote { OnOk result (out.new ≡ out.old ++ field_spelled optional_digest number value.now) }
+    ensures err { OnErr result (out.new ≡ out.old) }
     ensures fits { OnOk result (FitsKind optional_digest value.now) }
 {
     match value {
@@ -119,6 +127,7 @@ pub(crate) fn put_int32s(
     requires low { 0 < number }
     requires high { number < 2 ^ 29 }
     ensures wrote { OnOk result (out.new ≡ out.old ++ field_spelled int32_list number values.now) }
+    ensures err { OnErr result (out.new ≡ out.old) }
     ensures fits { OnOk result (FitsKind int32_list values.now) }
 {
     let mut numbers = Vec::new(alloc);
@@ -133,6 +142,7 @@ pub(crate) fn put_texts(out: &mut Writer, number: u32, values: &[Text]) -> Resul
     requires low { 0 < number }
     requires high { number < 2 ^ 29 }
     ensures wrote { OnOk result (out.new ≡ out.old ++ field_spelled text_list number values.now) }
+    ensures err { OnErr result (AddsPart out.old out.new (field_spelled text_list number values.now)) }
     ensures fits { OnOk result (FitsKind text_list values.now) }
 {
     'values: for value in values {
@@ -150,6 +160,7 @@ pub(crate) fn put_contents(
     requires low { 0 < number }
     requires high { number < 2 ^ 29 }
     ensures wrote { OnOk result (out.new ≡ out.old ++ field_spelled bytes_list number values.now) }
+    ensures err { OnErr result (AddsPart out.old out.new (field_spelled bytes_list number values.now)) }
     ensures fits { OnOk result (FitsKind bytes_list values.now) }
 {
     'values: for value in values {
@@ -168,6 +179,7 @@ pub(crate) fn put_digests(
     requires low { 0 < number }
     requires high { number < 2 ^ 29 }
     ensures wrote { OnOk result (out.new ≡ out.old ++ field_spelled digest_list number values.now) }
+    ensures err { OnErr result (AddsPart out.old out.new (field_spelled digest_list number values.now)) }
     ensures fits { OnOk result (FitsKind digest_list values.now) }
 {
     'values: for value in values {
@@ -176,7 +188,7 @@ pub(crate) fn put_digests(
     Ok(())
 }
 
-/// A message, which is written even where its content is empty.
+/// A message, which is written even if its content is empty.
 pub(crate) fn put_message<T: Message>(
     alloc: Global,
     out: &mut Writer,
@@ -186,6 +198,7 @@ pub(crate) fn put_message<T: Message>(
     requires low { 0 < number }
     requires high { number < 2 ^ 29 }
     ensures wrote { OnOk result (out.new ≡ out.old ++ bytes_field number (spelled T.table (T.value value.now))) }
+    ensures err { OnErr result (out.new ≡ out.old) }
     ensures fits { OnOk result (Short (spelled T.table (T.value value.now)) × Fits T.table (T.value value.now)) }
 {
     out.bytes(number, value.write(alloc)?.as_slice())
@@ -201,6 +214,7 @@ pub(crate) fn put_messages<T: Message>(
     requires low { 0 < number }
     requires high { number < 2 ^ 29 }
     ensures wrote { OnOk result (out.new ≡ out.old ++ flat_map (λ m. bytes_field number (spelled T.table m)) (map T.value values.now)) }
+    ensures err { OnErr result (AddsPart out.old out.new (flat_map (λ m. bytes_field number (spelled T.table m)) (map T.value values.now))) }
     ensures fits { OnOk result (AllByRecursion (λ m. Short (spelled T.table m) × Fits T.table m) (map T.value values.now)) }
 {
     'values: for value in values {

@@ -12,7 +12,7 @@ use digest_types::Digest;
 use proto_wire::{Fields, OutOfMemory, Text, Writer};
 use std::alloc::Global;
 
-/// A tree to lay into a folder. A request without root and path ends the stage.
+/// A tree to stage into a folder. A request with neither a root nor a path ends the stage.
 #[derive(Debug, Drop)]
 pub struct StageTreeRequest {
     pub instance_name: Text,
@@ -34,7 +34,7 @@ impl Message for StageTreeRequest {
         })
     }
 
-    #[tactic(auto, unfolding(crate::specs::Spelling::spelled))]
+    #[tactic(auto, using(crate::proofs::Parts::parts), unfolding(crate::specs::Spelling::spelled))]
     fn write_fields(&self, alloc: Global, out: &mut Writer) -> Result<(), OutOfMemory> {
         put_text(out, 1, &self.instance_name)?;
         put_optional_digest(alloc, out, 2, &self.root_digest)?;
@@ -44,7 +44,7 @@ impl Message for StageTreeRequest {
     ghost ascends = { refl };
 }
 
-/// The folder with the tree.
+/// The folder in which the tree is staged.
 #[derive(Debug, Drop)]
 pub struct StageTreeResponse {
     pub path: Text,
@@ -62,7 +62,7 @@ impl Message for StageTreeResponse {
         })
     }
 
-    #[tactic(auto, unfolding(crate::specs::Spelling::spelled))]
+    #[tactic(auto, using(crate::proofs::Parts::parts), unfolding(crate::specs::Spelling::spelled))]
     fn write_fields(&self, _alloc: Global, out: &mut Writer) -> Result<(), OutOfMemory> {
         put_text(out, 1, &self.path)
     }

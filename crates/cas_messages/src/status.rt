@@ -31,7 +31,7 @@ impl Message for RpcStatus {
         })
     }
 
-    #[tactic(auto, unfolding(crate::specs::Spelling::spelled))]
+    #[tactic(auto, using(crate::proofs::Parts::parts), unfolding(crate::specs::Spelling::spelled))]
     fn write_fields(&self, _alloc: Global, out: &mut Writer) -> Result<(), OutOfMemory> {
         put_int32(out, 1, self.code)?;
         put_text(out, 2, &self.message)

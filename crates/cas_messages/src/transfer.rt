@@ -10,10 +10,10 @@ use crate::message::Message;
 use crate::put::{put_bool, put_digest, put_digests, put_message, put_messages, put_text};
 use crate::status::RpcStatus;
 use digest_types::{Digest, Digests};
-use proto_wire::{Fields, OutOfMemory, Text, Writer};
+use proto_wire::{Fields, Listed, OutOfMemory, Text, Writer};
 use std::alloc::Global;
 
-/// Blobs to fetch from upstream where they are missing.
+/// Blobs to fetch from upstream where the store lacks them.
 #[derive(Debug, Drop)]
 pub struct FetchMissingBlobsRequest {
     pub instance_name: Text,
@@ -36,7 +36,7 @@ impl Message for FetchMissingBlobsRequest {
         })
     }
 
-    #[tactic(auto, unfolding(crate::specs::Spelling::spelled))]
+    #[tactic(auto, using(crate::proofs::Parts::parts), unfolding(crate::specs::Spelling::spelled))]
     fn write_fields(&self, alloc: Global, out: &mut Writer) -> Result<(), OutOfMemory> {
         put_text(out, 1, &self.instance_name)?;
         put_digests(alloc, out, 2, self.blob_digests.as_slice())
@@ -68,7 +68,7 @@ impl Message for FetchMissingBlobsResponseItem1 {
         })
     }
 
-    #[tactic(auto, unfolding(crate::specs::Spelling::spelled))]
+    #[tactic(auto, using(crate::proofs::Parts::parts), unfolding(crate::specs::Spelling::spelled))]
     fn write_fields(&self, alloc: Global, out: &mut Writer) -> Result<(), OutOfMemory> {
         put_digest(alloc, out, 1, &self.digest)?;
         put_message(alloc, out, 2, &self.status)
@@ -80,13 +80,13 @@ impl Message for FetchMissingBlobsResponseItem1 {
 /// The blobs that were not fetched.
 #[derive(Debug, Drop)]
 pub struct FetchMissingBlobsResponse {
-    pub responses: Vec<FetchMissingBlobsResponseItem1>,
+    pub responses: Listed<FetchMissingBlobsResponseItem1>,
 }
 
 impl Message for FetchMissingBlobsResponse {
     ghost table = { Tables.fetch_missing_blobs_response };
 
-    ghost value = { λ m. map ⟦<FetchMissingBlobsResponseItem1 as Message>⟧.value m.responses.items & tt };
+    ghost value = { λ m. map ⟦<FetchMissingBlobsResponseItem1 as Message>⟧.value m.responses & tt };
 
     #[tactic(auto, unfolding(crate::specs::Meaning::fields_in))]
     fn read_fields(
@@ -98,15 +98,15 @@ impl Message for FetchMissingBlobsResponse {
         })
     }
 
-    #[tactic(auto, unfolding(crate::specs::Spelling::spelled))]
+    #[tactic(auto, using(crate::proofs::Parts::parts), unfolding(crate::specs::Spelling::spelled))]
     fn write_fields(&self, alloc: Global, out: &mut Writer) -> Result<(), OutOfMemory> {
-        put_messages(alloc, out, 1, &self.responses)
+        put_messages(alloc, out, 1, self.responses.as_slice())
     }
 
     ghost ascends = { refl };
 }
 
-/// Blobs to send upstream where they are missing there.
+/// Blobs to upload where upstream lacks them.
 #[derive(Debug, Drop)]
 pub struct UploadMissingBlobsRequest {
     pub instance_name: Text,
@@ -129,7 +129,7 @@ impl Message for UploadMissingBlobsRequest {
         })
     }
 
-    #[tactic(auto, unfolding(crate::specs::Spelling::spelled))]
+    #[tactic(auto, using(crate::proofs::Parts::parts), unfolding(crate::specs::Spelling::spelled))]
     fn write_fields(&self, alloc: Global, out: &mut Writer) -> Result<(), OutOfMemory> {
         put_text(out, 1, &self.instance_name)?;
         put_digests(alloc, out, 2, self.blob_digests.as_slice())
@@ -138,7 +138,7 @@ impl Message for UploadMissingBlobsRequest {
     ghost ascends = { refl };
 }
 
-/// Why a blob was not sent.
+/// Why a blob was not uploaded.
 #[derive(Debug, Drop)]
 pub struct UploadMissingBlobsResponseItem1 {
     pub digest: Digest,
@@ -161,7 +161,7 @@ impl Message for UploadMissingBlobsResponseItem1 {
         })
     }
 
-    #[tactic(auto, unfolding(crate::specs::Spelling::spelled))]
+    #[tactic(auto, using(crate::proofs::Parts::parts), unfolding(crate::specs::Spelling::spelled))]
     fn write_fields(&self, alloc: Global, out: &mut Writer) -> Result<(), OutOfMemory> {
         put_digest(alloc, out, 1, &self.digest)?;
         put_message(alloc, out, 2, &self.status)
@@ -170,16 +170,16 @@ impl Message for UploadMissingBlobsResponseItem1 {
     ghost ascends = { refl };
 }
 
-/// The blobs that were not sent.
+/// The blobs that were not uploaded.
 #[derive(Debug, Drop)]
 pub struct UploadMissingBlobsResponse {
-    pub responses: Vec<UploadMissingBlobsResponseItem1>,
+    pub responses: Listed<UploadMissingBlobsResponseItem1>,
 }
 
 impl Message for UploadMissingBlobsResponse {
     ghost table = { Tables.upload_missing_blobs_response };
 
-    ghost value = { λ m. map ⟦<UploadMissingBlobsResponseItem1 as Message>⟧.value m.responses.items & tt };
+    ghost value = { λ m. map ⟦<UploadMissingBlobsResponseItem1 as Message>⟧.value m.responses & tt };
 
     #[tactic(auto, unfolding(crate::specs::Meaning::fields_in))]
     fn read_fields(
@@ -191,15 +191,15 @@ impl Message for UploadMissingBlobsResponse {
         })
     }
 
-    #[tactic(auto, unfolding(crate::specs::Spelling::spelled))]
+    #[tactic(auto, using(crate::proofs::Parts::parts), unfolding(crate::specs::Spelling::spelled))]
     fn write_fields(&self, alloc: Global, out: &mut Writer) -> Result<(), OutOfMemory> {
-        put_messages(alloc, out, 1, &self.responses)
+        put_messages(alloc, out, 1, self.responses.as_slice())
     }
 
     ghost ascends = { refl };
 }
 
-/// A tree to fetch from upstream, with its files or without them.
+/// A tree to fetch from upstream, with or without its files.
 #[derive(Debug, Drop)]
 pub struct FetchTreeRequest {
     pub instance_name: Text,
@@ -221,7 +221,7 @@ impl Message for FetchTreeRequest {
         })
     }
 
-    #[tactic(auto, unfolding(crate::specs::Spelling::spelled))]
+    #[tactic(auto, using(crate::proofs::Parts::parts), unfolding(crate::specs::Spelling::spelled))]
     fn write_fields(&self, alloc: Global, out: &mut Writer) -> Result<(), OutOfMemory> {
         put_text(out, 1, &self.instance_name)?;
         put_digest(alloc, out, 2, &self.root_digest)?;
@@ -231,7 +231,7 @@ impl Message for FetchTreeRequest {
     ghost ascends = { refl };
 }
 
-/// The tree is here.
+/// The answer once the whole tree is in the store.
 #[derive(Debug, Drop)]
 pub struct FetchTreeResponse;
 
@@ -248,7 +248,7 @@ impl Message for FetchTreeResponse {
         Ok(FetchTreeResponse)
     }
 
-    #[tactic(auto, unfolding(crate::specs::Spelling::spelled))]
+    #[tactic(auto, using(crate::proofs::Parts::parts), unfolding(crate::specs::Spelling::spelled))]
     fn write_fields(&self, _alloc: Global, _out: &mut Writer) -> Result<(), OutOfMemory> {
         Ok(())
     }
@@ -256,7 +256,7 @@ impl Message for FetchTreeResponse {
     ghost ascends = { refl };
 }
 
-/// A tree to send upstream.
+/// A tree to upload.
 #[derive(Debug, Drop)]
 pub struct UploadTreeRequest {
     pub instance_name: Text,
@@ -276,7 +276,7 @@ impl Message for UploadTreeRequest {
         })
     }
 
-    #[tactic(auto, unfolding(crate::specs::Spelling::spelled))]
+    #[tactic(auto, using(crate::proofs::Parts::parts), unfolding(crate::specs::Spelling::spelled))]
     fn write_fields(&self, alloc: Global, out: &mut Writer) -> Result<(), OutOfMemory> {
         put_text(out, 1, &self.instance_name)?;
         put_digest(alloc, out, 2, &self.root_digest)
@@ -285,7 +285,7 @@ impl Message for UploadTreeRequest {
     ghost ascends = { refl };
 }
 
-/// The tree is upstream.
+/// The answer once the whole tree is upstream.
 #[derive(Debug, Drop)]
 pub struct UploadTreeResponse;
 
@@ -302,7 +302,7 @@ impl Message for UploadTreeResponse {
         Ok(UploadTreeResponse)
     }
 
-    #[tactic(auto, unfolding(crate::specs::Spelling::spelled))]
+    #[tactic(auto, using(crate::proofs::Parts::parts), unfolding(crate::specs::Spelling::spelled))]
     fn write_fields(&self, _alloc: Global, _out: &mut Writer) -> Result<(), OutOfMemory> {
         Ok(())
     }

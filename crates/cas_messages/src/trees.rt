@@ -9,10 +9,10 @@ use crate::get::{contents_in, digest_in, int32_in, text_in};
 use crate::message::Message;
 use crate::put::{put_contents, put_digest, put_int32, put_text};
 use digest_types::Digest;
-use proto_wire::{Bytes, Fields, OutOfMemory, Text, Writer};
+use proto_wire::{Bytes, Fields, Listed, OutOfMemory, Text, Writer};
 use std::alloc::Global;
 
-/// The Directories of the tree below this root.
+/// Asks for the Directories of the tree below this root.
 #[derive(Debug, Drop)]
 pub struct GetTreeRequest {
     pub instance_name: Text,
@@ -38,7 +38,7 @@ impl Message for GetTreeRequest {
         })
     }
 
-    #[tactic(auto, unfolding(crate::specs::Spelling::spelled))]
+    #[tactic(auto, using(crate::proofs::Parts::parts), unfolding(crate::specs::Spelling::spelled))]
     fn write_fields(&self, alloc: Global, out: &mut Writer) -> Result<(), OutOfMemory> {
         put_text(out, 1, &self.instance_name)?;
         put_digest(alloc, out, 2, &self.root_digest)?;
@@ -51,17 +51,17 @@ impl Message for GetTreeRequest {
     ghost ascends = { refl };
 }
 
-/// Some Directories of a tree, each as its bytes.
+/// A page of a tree's Directories, each as its bytes.
 #[derive(Debug, Drop)]
 pub struct GetTreeResponse {
-    pub directories: Vec<Bytes>,
+    pub directories: Listed<Bytes>,
     pub next_page_token: Text,
 }
 
 impl Message for GetTreeResponse {
     ghost table = { Tables.get_tree_response };
 
-    ghost value = { λ m. m.directories.items & m.next_page_token & tt };
+    ghost value = { λ m. m.directories & m.next_page_token & tt };
 
     #[tactic(auto, unfolding(crate::specs::Meaning::fields_in))]
     fn read_fields(alloc: Global, fields: &Fields<'_>) -> Result<GetTreeResponse, MessageError> {
@@ -71,9 +71,9 @@ impl Message for GetTreeResponse {
         })
     }
 
-    #[tactic(auto, unfolding(crate::specs::Spelling::spelled))]
+    #[tactic(auto, using(crate::proofs::Parts::parts), unfolding(crate::specs::Spelling::spelled))]
     fn write_fields(&self, _alloc: Global, out: &mut Writer) -> Result<(), OutOfMemory> {
-        put_contents(out, 1, &self.directories)?;
+        put_contents(out, 1, self.directories.as_slice())?;
         put_text(out, 2, &self.next_page_token)
     }
 

@@ -82,10 +82,10 @@ items_again [] = refl
 items_again (item ∷ items) = ap (λ (others : List UpdateItem). item ∷ others) (items_again items)
 
 abbrev pub request_value : BatchUpdateBlobsRequest → Value batch_update_blobs_request
-request_value r = r.instance_name & map item_value r.requests.items & r.digest_function & tt
+request_value r = r.instance_name & map item_value r.requests & r.digest_function & tt
 
 viewed_by : (r : Result BatchUpdateBlobsRequest MessageError) (m : Result (Value batch_update_blobs_request) MessageError) → Gives request_value r m → Gives update_view r (update_by m)
-viewed_by (Ok r) m h = ap update_by h ∙ ap (λ (items : List UpdateItem). Ok (record { items = items; digest_function = r.digest_function })) (items_again r.requests.items)
+viewed_by (Ok r) m h = ap update_by h ∙ ap (λ (items : List UpdateItem). Ok (record { items = items; digest_function = r.digest_function })) (items_again r.requests)
 viewed_by (Err faults.OutOfMemory) m h = tt
 viewed_by (Err (faults.Wire field e)) m h = ap update_by h
 viewed_by (Err (faults.NotUtf8 field)) m h = ap update_by h

@@ -40,7 +40,7 @@ update_of v = record { items = map item_of v.1.0; digest_function = v.1.1.0 }
 
 -- a request without where its list lies in memory
 abbrev pub update_view : BatchUpdateBlobsRequest → Update
-update_view r = record { items = r.requests.items; digest_function = r.digest_function }
+update_view r = record { items = r.requests; digest_function = r.digest_function }
 
 -- a status in a message
 abbrev pub rpc_of : Status → RpcStatus

@@ -21,7 +21,7 @@ use cas_messages::{
 };
 use casd_base::{Code, Status};
 use digest_types::Digest;
-use proto_wire::{Bytes, OutOfMemory, Text};
+use proto_wire::{Bytes, Listed, OutOfMemory, Text};
 use std::alloc::Global;
 
 /// How many bytes of data a request has at most.
@@ -211,7 +211,7 @@ fn is_built_request(request: &BatchUpdateBlobsRequest) -> bool
     ensures { result ≡ is_built (update_view request.now) }
 {
     let mut size = 0;
-    for item in &request.requests {
+    for item in request.requests.as_slice() {
         if item.compressor.cast_unsigned() != 0 {
             return false;
         }
@@ -242,8 +242,10 @@ fn update_with<K: Shelf>(
     if !is_built_request(request) {
         return Ok(Err(not_built()));
     }
-    let responses = put_all(alloc, bench, shelf, &request.requests)?;
-    let response = BatchUpdateBlobsResponse { responses };
+    let responses = put_all(alloc, bench, shelf, request.requests.as_slice())?;
+    let response = BatchUpdateBlobsResponse {
+        responses: Listed::from_vec(responses),
+    };
     Ok(Ok(response.write(alloc)?))
 }
 

@@ -10,7 +10,7 @@ use cas_messages::{
 };
 use digest_types::Digest;
 use directory_canon::links_of;
-use proto_wire::{Bytes, Text};
+use proto_wire::{Bytes, Listed, Text};
 use std::alloc::Global;
 use std::process::Abort;
 use std::test::*;
@@ -73,7 +73,7 @@ fn request(alloc: Global, number: u64, wrong: bool) -> Result<BatchUpdateBlobsRe
     })?;
     Ok(BatchUpdateBlobsRequest {
         instance_name: Text::empty(),
-        requests,
+        requests: Listed::from_vec(requests),
         digest_function: 1,
     })
 }
@@ -215,13 +215,15 @@ impl Plain {
     ) -> Result<Answer, Fail> {
         let alloc = self.alloc;
         let mut responses = Vec::new(alloc);
-        for item in &request.requests {
+        for item in request.requests.as_slice() {
             responses.push(BatchUpdateBlobsResponseItem1 {
                 digest: item.digest,
                 status: self.put(rt, owner, item)?,
             })?;
         }
-        let response = BatchUpdateBlobsResponse { responses };
+        let response = BatchUpdateBlobsResponse {
+            responses: Listed::from_vec(responses),
+        };
         Ok(Answer::Call(Ok(response.write(alloc)?)))
     }
 

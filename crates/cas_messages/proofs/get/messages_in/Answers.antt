@@ -1,4 +1,4 @@
-use Rattle.std.proofs.Common.{ℕ, List, map}
+use Rattle.std.proofs.Common.{ℕ, List, Ok, map, sym, ap, ◌∙◌}
 use Rattle.std.proofs.lemmas.Result.{err_from_is_err_and}
 use Rattle.std.proofs.lemmas.List.{map_push}
 use Rattle.proto_wire.specs.Field.{contents_of}
@@ -24,3 +24,4 @@ pub returns : goal.returns
 returns g c =
     let read = λ (index : ℕ) (b : List ℕ). with_fault (inside c.args.number index) (message_in g.T.Message.table b) in
     is_done read (λ s. s.now) c.deref-content-items.result.now c.contents.index (map g.T.Message.value c.contents.messages.items) (each read 0 (contents_of c.args.number c.args.fields.now)) c.contents-test.false c.contents.invariant
+    ∙ ap (λ ms. Ok (map g.T.Message.value ms)) (sym c.from_vec.ensures)

@@ -1,4 +1,4 @@
-use Rattle.std.proofs.Common.{ℕ}
+use Rattle.std.proofs.Common.{ℕ, Ok, sym, ap, ◌∙◌}
 use Rattle.std.proofs.lemmas.Result.{err_from_is_err_and}
 use Rattle.proto_wire.specs.Field.{contents_of}
 use Rattle.cas_messages.specs.Meaning.{each, field_in, text_from}
@@ -24,3 +24,4 @@ unfolding field_in
 returns c =
     let read = λ (index : ℕ). text_from c.args.number in
     is_done read (λ s. s.now) c.deref-content-items.result.now c.contents.content-index c.contents.texts.items (each read 0 (contents_of c.args.number c.args.fields.now)) c.contents-test.false c.contents.invariant
+    ∙ ap Ok (sym c.from_vec.ensures)

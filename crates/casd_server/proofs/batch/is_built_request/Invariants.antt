@@ -5,6 +5,6 @@ use Rattle.casd_server.proofs.batch.is_built_request.Given as goal
 
 abbrev pub invariant-loop-item : goal.invariant-loop-item
 invariant-loop-item l =
-    (l.size ≡ sum_by (λ item. length item.bytes) (take l.item-index l.request.requests.items))
+    (l.size ≡ sum_by (λ item. length item.bytes) (take l.item-index l.request.requests))
     × (l.size ≤ 3_670_016)
-    × (list_all (λ item. eqb (cast_unsigned w32 item.compressor) 0) (take l.item-index l.request.requests.items) ≡ true)
+    × (list_all (λ item. eqb (cast_unsigned w32 item.compressor) 0) (take l.item-index l.request.requests) ≡ true)
