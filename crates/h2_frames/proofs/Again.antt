@@ -75,9 +75,9 @@ unknown_sound flags on kind len h short = record {
 
 pub payload_again : (at flags on : ℕ) (payload : List ℕ) (f : Frame) → IsPayload flags on payload f → payload_at at (head (length payload) (kind_of f) flags on) payload ≡ Ok f
 unfolding payload_at plain_of
-payload_again at flags on payload (frames.Data stream bytes size end) p =
+payload_again at flags on payload (frames.Data stream bytes size end_stream) p =
     rw (content_of at flags 0 payload bytes (has 8 flags) refl p.4, p.0, p.2, p.3) refl
-payload_again at flags on payload (frames.Headers stream block end whole) p =
+payload_again at flags on payload (frames.Headers stream block end_stream end_headers) p =
     rw (content_of at flags (priority_len flags) payload block (has 8 flags) refl p.4, p.0, p.2, p.3) refl
 payload_again at flags on payload (frames.Priority stream) p = rw p.0 refl
 payload_again at flags on payload (frames.Reset stream code) p =
@@ -94,8 +94,8 @@ payload_again at flags on payload (frames.GoAway last code) p =
     let low : n % 0x8000_0000 ≡ last = omega (arith, x.small) in
     let behind : number_at 4 (to_be_bytes w32 n ++ (to_be_bytes w32 code ++ p.1.1)) ≡ code = from_be_bytes-to_be_bytes_4 code p.1.3 in
     rw (parts, back, low, behind) refl
-payload_again at flags on payload (frames.Window stream add) p = rw (p.0, number_of payload add p.1) refl
-payload_again at flags on payload (frames.Continuation stream block whole) p = rw (p.0, p.2, p.3) refl
+payload_again at flags on payload (frames.Window stream increment) p = rw (p.0, number_of payload increment p.1) refl
+payload_again at flags on payload (frames.Continuation stream block end_headers) p = rw (p.0, p.2, p.3) refl
 payload_again at flags on payload (frames.Unknown kind) p = unknown at flags on kind payload p
 
 -- ---- a header without an offence
@@ -115,10 +115,10 @@ settings_good flags len ack same sixes empty = rw (eq-eqb (len % 6) 0 sixes, ←
 
 pub payload_sound : (flags on : ℕ) (payload : List ℕ) (f : Frame) → IsPayload flags on payload f → length payload ≤ 16384 → Sound (head (length payload) (kind_of f) flags on)
 unfolding is_bad_length
-payload_sound flags on payload (frames.Data stream bytes size end) p short =
+payload_sound flags on payload (frames.Data stream bytes size end_stream) p short =
     let long : pad_len flags ≤ length payload = omega (arith, content_long 0 payload bytes (has 8 flags) p.4) in
     record { short = short; on_stream = on_stream_is on p.1; on_connection = refl; good = le-ltb (length payload) (pad_len flags) long }
-payload_sound flags on payload (frames.Headers stream block end whole) p short =
+payload_sound flags on payload (frames.Headers stream block end_stream end_headers) p short =
     let long : pad_len flags + priority_len flags ≤ length payload = content_long (priority_len flags) payload block (has 8 flags) p.4 in
     record { short = short; on_stream = on_stream_is on p.1; on_connection = refl; good = le-ltb (length payload) (pad_len flags + priority_len flags) long }
 payload_sound flags on payload (frames.Priority stream) p short =
@@ -134,9 +134,9 @@ payload_sound flags on payload (frames.Ping ack bytes) p short =
 payload_sound flags on payload (frames.GoAway last code) p short =
     let long : 8 ≤ length payload = omega (arith, ap length p.1.4, ap length p.1.2.whole, length-append p.1.0 (to_be_bytes w32 code ++ p.1.1)) in
     record { short = short; on_stream = refl; on_connection = is_len on 0 p.0; good = le-ltb (length payload) 8 long }
-payload_sound flags on payload (frames.Window stream add) p short =
+payload_sound flags on payload (frames.Window stream increment) p short =
     record { short = short; on_stream = refl; on_connection = refl; good = is_len (length payload) 4 (ap length p.1.whole) }
-payload_sound flags on payload (frames.Continuation stream block whole) p short =
+payload_sound flags on payload (frames.Continuation stream block end_headers) p short =
     record { short = short; on_stream = on_stream_is on p.1; on_connection = refl; good = refl }
 payload_sound flags on payload (frames.Unknown kind) p short = unknown_sound flags on kind (length payload) p short
 

@@ -11,4 +11,3 @@ pub mod Rests
 pub mod Prefaces
 pub mod OneReading
 pub mod Streams
-pub mod TestLemmas

@@ -7,7 +7,7 @@ use Rattle.h2_frames.specs.declared.fault.FrameFault.{FrameFault}
 use Rattle.h2_frames.specs.declared.frame.Frame.{Frame}
 use Rattle.h2_frames.specs.Reading.{frame_at}
 use Rattle.h2_frames.specs.Spelling.{IsSpelling}
-use Rattle.h2_frames.specs.Stream.{Pending, preface, preface_at}
+use Rattle.h2_frames.specs.Stream.{Pending, preface, preface_at, place_of}
 use Rattle.h2_frames.specs.Grammar.{Frames, IsRest, IsPrefaceRest, front_of, HasFrames, IsStream, HasGiven}
 use Rattle.h2_frames.proofs.Again.{frame_again}
 use Rattle.h2_frames.proofs.Found.{frame_found, frame_long}
@@ -71,11 +71,23 @@ placed_is p q at a b e =
 pub behind_first : (m first rest r : List ℕ) → m ≡ first ++ rest → m ++ r ≡ first ++ (rest ++ r)
 behind_first m first rest r e = ap (λ (ys : List ℕ). ys ++ r) e ∙ append_assoc first rest r
 
-pub frames_one : (at : ℕ) (m n r s : List ℕ) (ps qs : List (ℕ × Frame)) (d e : Option FrameFault) → Frames at m ps → Frames at n qs → m ++ r ≡ n ++ s → frame_at (at + length m) r ≡ ending d → frame_at (at + length n) s ≡ ending e → (ps ≡ qs) × (d ≡ e)
+-- all frames, how they end, and where
+pub record SameReading (ps qs : List (ℕ × Frame)) (d e : Option FrameFault) (m n : ℕ) (r s : List ℕ) : Type 0 where
+  pub frames : ps ≡ qs
+  pub end : d ≡ e
+  pub at : m ≡ n
+  pub rest : r ≡ s
+
+pub frames_one : (at : ℕ) (m n r s : List ℕ) (ps qs : List (ℕ × Frame)) (d e : Option FrameFault) → Frames at m ps → Frames at n qs → m ++ r ≡ n ++ s → frame_at (at + length m) r ≡ ending d → frame_at (at + length n) s ≡ ending e → SameReading ps qs d e (at + length m) (at + length n) r s
 frames_one at m n r s [] [] d e v w same x y =
     let rests : r ≡ s = ap (λ (ys : List ℕ). ys ++ r) (sym v) ∙ same ∙ ap (λ (ys : List ℕ). ys ++ s) w in
     let places : at + length m ≡ at + length n = ap (λ (ys : List ℕ). at + length ys) (v ∙ sym w) in
-    (refl, ending_is d e (sym x ∙ ap (frame_at (at + length m)) rests ∙ ap (λ (k : ℕ). frame_at k s) places ∙ y))
+    record {
+      frames = refl;
+      end = ending_is d e (sym x ∙ ap (frame_at (at + length m)) rests ∙ ap (λ (k : ℕ). frame_at k s) places ∙ y);
+      at = places;
+      rest = rests;
+    }
 frames_one at m n r s [] (q ∷ qs) d e v w same x y =
     let here : r ≡ w.0 ++ (w.1 ++ s) = ap (λ (ys : List ℕ). ys ++ r) (sym v) ∙ same ∙ behind_first n w.0 w.1 s w.4 in
     absurd (no_frame (at + length m) r w.0 (w.1 ++ s) q.1 d w.2 here x)
@@ -89,7 +101,12 @@ frames_one at m n r s (p ∷ ps) (q ∷ qs) d e v w same x y =
     let others = subst (λ (k : ℕ). Frames (at + k) w.1 qs) (sym o.len) w.5 in
     let ih = frames_one (at + length v.0) v.1 w.1 r s ps qs d e v.5 others o.rest (subst (λ (k : ℕ). frame_at k r ≡ ending d) mine x) (subst (λ (k : ℕ). frame_at k s ≡ ending e) yours y) in
     let firsts : p ≡ q = placed_is p q at v.3 w.3 o.frame in
-    (ap (λ (z : ℕ × Frame). z ∷ ps) firsts ∙ ap (λ (zs : List (ℕ × Frame)). q ∷ zs) ih.0, ih.1)
+    record {
+      frames = ap (λ (z : ℕ × Frame). z ∷ ps) firsts ∙ ap (λ (zs : List (ℕ × Frame)). q ∷ zs) ih.frames;
+      end = ih.end;
+      at = mine ∙ ih.at ∙ sym yours;
+      rest = ih.rest;
+    }
 
 -- all frames begin with those of any front
 pub frames_first : (at : ℕ) (m n r s : List ℕ) (ps qs : List (ℕ × Frame)) (d : Option FrameFault) → Frames at m ps → Frames at n qs → m ++ r ≡ n ++ s → frame_at (at + length m) r ≡ ending d → (more : List (ℕ × Frame)) × (ps ≡ qs ++ more)
@@ -139,29 +156,31 @@ preface_ending_is None (Some e) h = absurd cc
 preface_ending_is (Some d) None h = absurd cc
 preface_ending_is (Some d) (Some e) h = cc
 
-pub same_frames : (due : Bool) (text : List ℕ) (ps qs : List (ℕ × Frame)) (d e : Option FrameFault) → HasFrames due text ps d → HasFrames due text qs e → (ps ≡ qs) × (d ≡ e)
-same_frames due text ps qs d e x y =
+pub same_frames : (due : Bool) (text : List ℕ) (ps qs : List (ℕ × Frame)) (d e : Option FrameFault) (m n : Option ℕ) → HasFrames due text ps d m → HasFrames due text qs e n → (ps ≡ qs) × (d ≡ e) × (m ≡ n)
+same_frames due text ps qs d e m n x y =
     let at : ℕ = length (front_of due) in
-    frames_one at x.middle y.middle x.rest y.rest ps qs d e x.frames y.frames (cut_front (front_of due) _ _ (sym x.whole ∙ y.whole)) (rest_again (at + length x.middle) x.rest d x.rest_is) (rest_again (at + length y.middle) y.rest e y.rest_is)
+    let s = frames_one at x.middle y.middle x.rest y.rest ps qs d e x.frames y.frames (cut_front (front_of due) _ _ (sym x.whole ∙ y.whole)) (rest_again (at + length x.middle) x.rest d x.rest_is) (rest_again (at + length y.middle) y.rest e y.rest_is) in
+    let places : place_of (at + length x.middle) x.rest ≡ place_of (at + length y.middle) y.rest = ap (λ (k : ℕ). place_of k x.rest) s.at ∙ ap (place_of (at + length y.middle)) s.rest in
+    (s.frames, s.end, x.place_is ∙ places ∙ sym y.place_is)
 
 -- the bytes of a connection have one reading
-pub one_stream : (due : Bool) (text : List ℕ) (ps qs : List (ℕ × Frame)) (d e : Option FrameFault) → IsStream due text ps d → IsStream due text qs e → (ps ≡ qs) × (d ≡ e)
-one_stream due text ps qs d e (inl x) (inl y) = same_frames due text ps qs d e x y
-one_stream true text ps qs d e (inl x) (inr y) = absurd (not_both text (x.middle ++ x.rest) e x.whole y.2)
-one_stream false text ps qs d e (inl x) (inr y) = absurd (true_false (sym y.0))
-one_stream true text ps qs d e (inr x) (inl y) = absurd (not_both text (y.middle ++ y.rest) d y.whole x.2)
-one_stream false text ps qs d e (inr x) (inl y) = absurd (true_false (sym x.0))
-one_stream due text ps qs d e (inr x) (inr y) =
-    (x.1 ∙ sym y.1, preface_ending_is d e (sym (preface_rest_again text d x.2) ∙ preface_rest_again text e y.2))
+pub one_stream : (due : Bool) (text : List ℕ) (ps qs : List (ℕ × Frame)) (d e : Option FrameFault) (m n : Option ℕ) → IsStream due text ps d m → IsStream due text qs e n → (ps ≡ qs) × (d ≡ e) × (m ≡ n)
+one_stream due text ps qs d e m n (inl x) (inl y) = same_frames due text ps qs d e m n x y
+one_stream true text ps qs d e m n (inl x) (inr y) = absurd (not_both text (x.middle ++ x.rest) e x.whole y.2)
+one_stream false text ps qs d e m n (inl x) (inr y) = absurd (true_false (sym y.0))
+one_stream true text ps qs d e m n (inr x) (inl y) = absurd (not_both text (y.middle ++ y.rest) d y.whole x.2)
+one_stream false text ps qs d e m n (inr x) (inl y) = absurd (true_false (sym x.0))
+one_stream due text ps qs d e m n (inr x) (inr y) =
+    (x.1 ∙ sym y.1, preface_ending_is d e (sym (preface_rest_again text d x.2) ∙ preface_rest_again text e y.2), x.3 ∙ sym y.3)
 
 -- what was given so far are the first of all frames
-pub first_stream : (due : Bool) (text : List ℕ) (ps qs : List (ℕ × Frame)) (r : Pending) (e : Option FrameFault) → HasGiven due text ps r → IsStream due text qs e → (more : List (ℕ × Frame)) × (qs ≡ ps ++ more)
-first_stream due text ps qs r e (inl x) (inl y) =
+pub first_stream : (due : Bool) (text : List ℕ) (ps qs : List (ℕ × Frame)) (r : Pending) (e : Option FrameFault) (n : Option ℕ) → HasGiven due text ps r → IsStream due text qs e n → (more : List (ℕ × Frame)) × (qs ≡ ps ++ more)
+first_stream due text ps qs r e n (inl x) (inl y) =
     let at : ℕ = length (front_of due) in
     frames_first at y.middle x.middle y.rest r.rest qs ps e y.frames x.frames (cut_front (front_of due) _ _ (sym y.whole ∙ x.whole)) (rest_again (at + length y.middle) y.rest e y.rest_is)
-first_stream true text ps qs r e (inl x) (inr y) = absurd (not_both text (x.middle ++ r.rest) e x.whole y.2)
-first_stream false text ps qs r e (inl x) (inr y) = absurd (true_false (sym y.0))
-first_stream due text ps qs r e (inr x) y = (qs, ap (λ (zs : List (ℕ × Frame)). zs ++ qs) (sym x.none))
+first_stream true text ps qs r e n (inl x) (inr y) = absurd (not_both text (x.middle ++ r.rest) e x.whole y.2)
+first_stream false text ps qs r e n (inl x) (inr y) = absurd (true_false (sym y.0))
+first_stream due text ps qs r e n (inr x) y = (qs, ap (λ (zs : List (ℕ × Frame)). zs ++ qs) (sym x.none))
 
 -- what was read, with or without a frame
 pub case_of : (r : Result (Option (Frame × ℕ)) FrameFault) → ((end : Option FrameFault) × (r ≡ ending end)) ⊎ ((x : Frame × ℕ) × (r ≡ read_of x))
@@ -216,15 +235,15 @@ reading (suc fuel) at text few fits =
           (reading fuel (at + length (take n text)) (drop n text) (omega (arith, length-drop n text, long.0)) (IsBytes-drop n text fits))
     ]
 
-pub stream_of : (due : Bool) (text behind_it : List ℕ) → text ≡ front_of due ++ behind_it → HasReading (length (front_of due)) behind_it → (ps : List (ℕ × Frame)) × (end : Option FrameFault) × IsStream due text ps end
+pub stream_of : (due : Bool) (text behind_it : List ℕ) → text ≡ front_of due ++ behind_it → HasReading (length (front_of due)) behind_it → (ps : List (ℕ × Frame)) × (end : Option FrameFault) × (place : Option ℕ) × IsStream due text ps end place
 stream_of due text behind_it parts x =
-    (x.frames, x.end, inl (record { middle = x.middle; rest = x.rest; whole = parts ∙ ap (λ (ys : List ℕ). front_of due ++ ys) x.whole; frames = x.are; rest_is = x.rest_is }))
+    (x.frames, x.end, place_of (length (front_of due) + length x.middle) x.rest, inl (record { middle = x.middle; rest = x.rest; whole = parts ∙ ap (λ (ys : List ℕ). front_of due ++ ys) x.whole; frames = x.are; rest_is = x.rest_is; place_is = refl }))
 
 -- all bytes have a reading
-pub each_stream : (due : Bool) (text : List ℕ) → IsBytes text → (ps : List (ℕ × Frame)) × (end : Option FrameFault) × IsStream due text ps end
+pub each_stream : (due : Bool) (text : List ℕ) → IsBytes text → (ps : List (ℕ × Frame)) × (end : Option FrameFault) × (place : Option ℕ) × IsStream due text ps end place
 each_stream false text fits = stream_of false text text refl (reading (length text) 0 text (omega arith) fits)
 each_stream true text fits =
     elim (case_preface (preface_at 0 text)) [
-      | inl p ↦ ([], p.0, inr (refl, refl, preface_rest_found text p.0 p.1))
+      | inl p ↦ ([], p.0, place_of 0 text, inr (refl, refl, preface_rest_found text p.0 p.1, refl))
       | inr p ↦ stream_of true text (drop 24 text) (preface_found text p) (reading (length (drop 24 text)) (length preface) (drop 24 text) (omega arith) (IsBytes-drop 24 text fits))
     ]

@@ -1,7 +1,7 @@
 -- Where no frame begins: less than a frame, or an offence.
 use Rattle.std.proofs.Common.{◌≡◌, ℕ, suc, ◌+◌, ◌-◌, ◌<◌, ◌≤◌, ◌⊎◌, inl, inr, Bool, true, false, cond, eqb, ltb, Result, Ok, Err, Option, Some, None, List, [], ◌∷◌, ◌++◌, length, take, drop, refl, sym, ap, subst, ◌∙◌, arith}
 use Rattle.std.proofs.lemmas.Bool.{eqb-true, eq-eqb, ltb-true, ltb-false, lt-ltb, le-ltb}
-use Rattle.std.proofs.lemmas.List.{length-take, take-append-drop, drop_at}
+use Rattle.std.proofs.lemmas.List.{length-take, length-drop, take-append-drop, drop_at}
 use Rattle.proto_wire.specs.Reading.{IsBytes}
 use Rattle.proto_wire.proofs.Steps.{chosen}
 use Rattle.h2_frames.specs.declared.fault.FrameFault.{FrameFault}
@@ -11,7 +11,7 @@ use Rattle.h2_frames.specs.declared.frame.Frame.TheVariants as frames
 use Rattle.h2_frames.specs.declared.layout.Header.{Header}
 use Rattle.h2_frames.specs.Layout.{has, pad_len, priority_len, is_bad_length, header_of, offence}
 use Rattle.h2_frames.specs.Reading.{◌>>=◌, unless, unpadded, content_at, payload_at, frame_at}
-use Rattle.h2_frames.specs.Grammar.{HasHeader, IsPart, HasOffence, IsSkipped, IsOverpadded, IsRest}
+use Rattle.h2_frames.specs.Grammar.{HasHeader, IsFramePrefix, HasOffence, IsSkipped, IsOverpadded, IsRest}
 use Rattle.h2_frames.proofs.Headers.{Sound, sound, no_offence}
 use Rattle.h2_frames.proofs.Again.{head, header_again}
 use Rattle.h2_frames.proofs.HeaderFound.{header_found}
@@ -68,7 +68,7 @@ ok_never x e h = cc
 
 -- ---- less than a frame
 
-pub part_found : (at : ℕ) (text : List ℕ) → IsBytes text → frame_at at text ≡ Ok None → IsPart text
+pub part_found : (at : ℕ) (text : List ℕ) → IsBytes text → frame_at at text ≡ Ok None → IsFramePrefix text
 unfolding frame_at
 part_found at text fits e =
     let h : Header = header_of text in
@@ -82,7 +82,24 @@ part_found at text fits e =
           ]
     ]
 
-pub part_again : (at : ℕ) (text : List ℕ) → IsPart text → frame_at at text ≡ Ok None
+-- a proper prefix of a frame has at most 9 bytes of header and 16,383 bytes of payload
+pub part_short : (at : ℕ) (text : List ℕ) → frame_at at text ≡ Ok None → length text ≤ 16392
+unfolding frame_at
+part_short at text e =
+    let h : Header = header_of text in
+    elim (chosen (ltb (length text) 9) _ _ (Ok None) e) [
+      | inl p ↦ let few : length text < 9 = ltb-true _ _ p.0 in omega arith
+      | inr p ↦
+          let a = goes_by (offence at h) _ None p.1 in
+          elim (chosen (ltb (length (drop 9 text)) h.len) _ _ (Ok None) a.1) [
+            | inl q ↦
+                let fewer : length (drop 9 text) < h.len = ltb-true _ _ q.0 in
+                omega (arith, length-drop 9 text, (sound at h a.0).short)
+            | inr q ↦ absurd (never_none (payload_at at h (take h.len (drop 9 text))) (λ f. (f, 9 + h.len)) q.1)
+          ]
+    ]
+
+pub part_again : (at : ℕ) (text : List ℕ) → IsFramePrefix text → frame_at at text ≡ Ok None
 unfolding frame_at
 part_again at text (inl few) = rw (lt-ltb (length text) 9 few) refl
 part_again at text (inr x) =

@@ -1,11 +1,14 @@
 -- What is written is a spelling.
-use Rattle.std.proofs.Common.{◌≡◌, ℕ, ◌+◌, ◌*◌, ◌^◌, ◌<◌, ◌≤◌, Bool, true, false, List, [], ◌∷◌, ◌++◌, length, refl, sym, ap, arith}
+use Rattle.std.specs.Prelude.{OnOk}
+use Rattle.std.proofs.Common.{Result, Ok, Err, ◌≡◌, ℕ, ◌+◌, ◌*◌, ◌^◌, ◌<◌, ◌≤◌, Bool, true, false, List, [], ◌∷◌, ◌++◌, length, refl, sym, ap, arith}
 use Rattle.std.specs.List.{flat_map}
 use Rattle.std.specs.Int.{w32, to_be_bytes}
 use Rattle.h2_frames.specs.declared.frame.Frame.{Frame}
 use Rattle.h2_frames.specs.declared.frame.Frame.TheVariants as frames
 use Rattle.h2_frames.specs.Layout.{has}
 use Rattle.h2_frames.specs.Spelling.{kind_of, IsNumber31, IsPadded, setting, AreSettings, IsPayload, IsSpelling, flag, framed, spelled, Writable, HasSettings, IsTyped}
+use Rattle.h2_frames.specs.Reading.{IsReadAs}
+use Rattle.h2_frames.proofs.Again.{frame_again}
 use Rattle.h2_frames.proofs.SettingLemmas.{settings_len}
 
 number_written : (n : ℕ) → n < 2 ^ 31 → IsNumber31 (to_be_bytes w32 n) n
@@ -60,7 +63,19 @@ spelled-spelling (frames.Push stream) w t = spelling_of 0 stream [] _ (omega ari
 spelled-spelling (frames.Ping ack bytes) w t = spelling_of (flag ack 1) 0 bytes _ (omega (arith, t)) (omega arith) (refl, flag_is ack, t, refl)
 spelled-spelling (frames.GoAway last code) w t =
     spelling_of 0 0 (to_be_bytes w32 last ++ to_be_bytes w32 code) _ (omega arith) (omega arith) (refl, (to_be_bytes w32 last, [], number_written last w, t, refl))
-spelled-spelling (frames.Window stream add) w t = spelling_of 0 stream (to_be_bytes w32 add) _ (omega arith) w.0 (refl, number_written add w.1)
+spelled-spelling (frames.Window stream increment) w t = spelling_of 0 stream (to_be_bytes w32 increment) _ (omega arith) w.0 (refl, number_written increment w.1)
 spelled-spelling (frames.Continuation stream block true) w t = spelling_of 4 stream block _ w.1 w.0.1 (refl, w.0.0, refl, refl)
 spelled-spelling (frames.Continuation stream block false) w t = spelling_of 0 stream block _ w.1 w.0.1 (refl, w.0.0, refl, refl)
 spelled-spelling (frames.Unknown kind) w t = spelling_of 0 0 [] _ (omega arith) (omega arith) w
+
+-- what was written is a spelling, and is read again
+pub written : {A E : Type 0} (f : Frame) (r : Result A E) → Writable f → OnOk r (IsTyped f) → OnOk r (IsSpelling (spelled f) f)
+written f (Ok x) w t = spelled-spelling f w t
+written f (Err e) w t = tt
+
+pub read_again : (f : Frame) → Writable f → IsTyped f → IsReadAs (spelled f) f
+read_again f w t at rest = frame_again at (spelled f) rest f (spelled-spelling f w t)
+
+pub written_again : {A E : Type 0} (f : Frame) (r : Result A E) → Writable f → OnOk r (IsTyped f) → OnOk r (IsReadAs (spelled f) f)
+written_again f (Ok x) w t = read_again f w t
+written_again f (Err e) w t = tt

@@ -1,13 +1,14 @@
--- The bytes of a connection as a relation of whole lists: the client's preface where it is due, spellings of frames,
--- one after the other, and a rest: nothing, a proper prefix, or bytes at which the first offence stands.
-use Rattle.std.specs.Prelude.{◌≡◌, ◌≢◌, ◌⊎◌, ◌+◌, ◌^◌, ◌<◌, ◌≤◌, ℕ, Bool, true, false, List, [], ◌∷◌, ◌++◌, length, take, Option, Some, None, Result, Ok, Err, if◌then◌else◌}
+-- The bytes of a connection as a relation of whole lists (RFC 9113, sections 3.4, 4.1 and 6): the client's preface where
+-- it is due, spellings of frames, one after the other, and a rest: nothing, a proper prefix of the preface or of a frame,
+-- or bytes that begin with a malformed frame or differ from the preface.
+use Rattle.std.specs.Prelude.{◌≡◌, ◌≢◌, ◌⊎◌, ◌+◌, ◌^◌, ◌<◌, ◌≤◌, ℕ, Bool, true, false, List, [], ◌∷◌, ◌++◌, length, take, Option, Some, None, if◌then◌else◌}
 use Rattle.h2_frames.specs.declared.fault.FrameFault.{FrameFault}
 use Rattle.h2_frames.specs.declared.fault.FrameFault.TheVariants as faults
 use Rattle.h2_frames.specs.declared.frame.Frame.{Frame}
 use Rattle.h2_frames.specs.declared.layout.Header.{Header}
 use Rattle.h2_frames.specs.Layout.{has, priority_len, offence}
 use Rattle.h2_frames.specs.Spelling.{header_bytes, IsSpelling}
-use Rattle.h2_frames.specs.Stream.{Pending, preface}
+use Rattle.h2_frames.specs.Stream.{Pending, preface, place_of}
 
 -- the bytes, the first of which stands at `at`, are spellings of these frames, one after the other, each with its place
 abbrev pub Frames : ℕ → List ℕ → List (ℕ × Frame) → Type 0
@@ -22,7 +23,7 @@ pub record HasHeader (text : List ℕ) (h : Header) (behind : List ℕ) : Type 0
   pub on_small : h.stream < 2 ^ 31
   pub whole : text ≡ header_bytes h.len h.kind h.flags bit h.stream ++ behind
 
--- a header without an offence, and less than its payload (whether there is an offence does not depend on the place)
+-- a header that shows no offence (which does not depend on its place), and a proper prefix of its payload
 pub record IsShort (text : List ℕ) : Type 0 where
   pub header : Header
   pub behind : List ℕ
@@ -31,10 +32,10 @@ pub record IsShort (text : List ℕ) : Type 0 where
   pub short : length behind < header.len
 
 -- nothing, or a proper prefix of a frame
-abbrev pub IsPart : List ℕ → Type 0
-IsPart text = (length text < 9) ⊎ IsShort text
+abbrev pub IsFramePrefix : List ℕ → Type 0
+IsFramePrefix text = (length text < 9) ⊎ IsShort text
 
--- the header shows an offence
+-- the header shows that the frame is malformed
 pub record HasOffence (at : ℕ) (text : List ℕ) (e : FrameFault) : Type 0 where
   pub header : Header
   pub behind : List ℕ
@@ -63,9 +64,9 @@ pub record IsOverpadded (at : ℕ) (text : List ℕ) (e : FrameFault) : Type 0 w
   pub over : length left < pad
   pub fault : e ≡ faults.BadPadding at
 
--- the rest behind all frames: less than a frame, or the first offence
+-- the rest behind all frames: nothing or a proper prefix of a frame, or a malformed frame
 abbrev pub IsRest : ℕ → List ℕ → Option FrameFault → Type 0
-IsRest at text None = IsPart text
+IsRest at text None = IsFramePrefix text
 IsRest at text (Some e) = HasOffence at text e ⊎ IsOverpadded at text e
 
 -- the first byte that differs from the preface
@@ -89,17 +90,19 @@ IsPrefaceRest text (Some e) = Differs text e
 abbrev pub front_of : Bool → List ℕ
 front_of due = if due then preface else []
 
--- all frames, and the rest
-pub record HasFrames (due : Bool) (text : List ℕ) (ps : List (ℕ × Frame)) (end : Option FrameFault) : Type 0 where
+-- all frames, the rest behind them, and where it begins, if it is not empty
+pub record HasFrames (due : Bool) (text : List ℕ) (ps : List (ℕ × Frame)) (end : Option FrameFault) (place : Option ℕ) : Type 0 where
   pub middle : List ℕ
   pub rest : List ℕ
   pub whole : text ≡ front_of due ++ (middle ++ rest)
   pub frames : Frames (length (front_of due)) middle ps
   pub rest_is : IsRest (length (front_of due) + length middle) rest end
+  pub place_is : place ≡ place_of (length (front_of due) + length middle) rest
 
--- The bytes are those of a connection, with these frames, and end in less than a frame or in this fault.
-abbrev pub IsStream : Bool → List ℕ → List (ℕ × Frame) → Option FrameFault → Type 0
-IsStream due text ps end = HasFrames due text ps end ⊎ ((due ≡ true) × (ps ≡ []) × IsPrefaceRest text end)
+-- The bytes are those of a connection, with these frames. They end in nothing or a proper prefix, or in this fault, and
+-- what they end in begins at this place, if it is not empty.
+abbrev pub IsStream : Bool → List ℕ → List (ℕ × Frame) → Option FrameFault → Option ℕ → Type 0
+IsStream due text ps end place = HasFrames due text ps end place ⊎ ((due ≡ true) × (ps ≡ []) × IsPrefaceRest text end × (place ≡ place_of 0 text))
 
 -- ---- what a reader has given
 
@@ -122,14 +125,3 @@ pub record StandsBefore (due : Bool) (text : List ℕ) (ps : List (ℕ × Frame)
 -- of all bytes that were fed, the reader has given these frames, and no other byte
 abbrev pub HasGiven : Bool → List ℕ → List (ℕ × Frame) → Pending → Type 0
 HasGiven due text ps r = StandsBehind due text ps r ⊎ StandsBefore due text ps r
-
--- the frames that were given with what is given next
-abbrev pub GoesBy : Bool → List ℕ → List (ℕ × Frame) → Option (ℕ × Frame) → Pending → Type 0
-GoesBy due text ps None s = HasGiven due text ps s × IsStream due text ps None
-GoesBy due text ps (Some p) s = HasGiven due text (ps ++ p ∷ []) s
-
--- What is given next of all bytes that were fed: one frame more, or there is none, since the frames that were given are
--- all of them.
-abbrev pub Goes : Bool → List ℕ → List (ℕ × Frame) → Result (Option (ℕ × Frame) × Pending) FrameFault → Type 0
-Goes due text ps (Ok x) = GoesBy due text ps x.0 x.1
-Goes due text ps (Err e) = IsStream due text ps (Some e)

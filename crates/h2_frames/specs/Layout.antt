@@ -9,7 +9,8 @@ use Rattle.h2_frames.specs.declared.layout.Header.{Header}
 abbrev pub has : ℕ → ℕ → Bool
 has flag flags = not (bit_and flags flag == 0)
 
--- DATA, HEADERS, PRIORITY, RST_STREAM and CONTINUATION belong to a stream
+-- DATA, HEADERS, PRIORITY, RST_STREAM and CONTINUATION belong to a stream; so does PUSH_PROMISE, which the crate above
+-- refuses on any stream
 abbrev pub is_on_stream : ℕ → Bool
 is_on_stream kind = kind == 0 || kind == 1 || kind == 2 || kind == 3 || kind == 9
 
@@ -25,7 +26,7 @@ pad_len flags = if has 8 flags then 1 else 0
 abbrev pub priority_len : ℕ → ℕ
 priority_len flags = if has 32 flags then 5 else 0
 
--- the length is none that the type allows
+-- the type does not allow the length (sections 6.1 to 6.10)
 unfoldable pub is_bad_length : Header → Bool
 is_bad_length h =
     if h.kind == 0 then nat_lt h.len (pad_len h.flags)
@@ -50,7 +51,8 @@ header_of text = record {
   stream = number_at 5 text % 0x8000_0000;
 }
 
--- the first offence of a frame, whose first byte stands at `at`, that its header shows
+-- the first offence that the header shows of a frame whose first byte stands at `at`; the payload has at most 16,384
+-- bytes (section 4.2)
 unfoldable pub offence : ℕ → Header → Option FrameFault
 offence at h =
     if nat_lt 16384 h.len then Some (faults.TooLong at)

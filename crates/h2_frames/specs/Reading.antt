@@ -1,5 +1,6 @@
--- What stands at the beginning of some bytes: nothing whole, the first offence, or a frame and its length.
-use Rattle.std.specs.Prelude.{◌≡◌, ◌+◌, ◌-◌, ◌%◌, ◌==◌, nat_lt, ℕ, List, [], ◌∷◌, length, take, drop, slice_index, Option, Some, None, Result, Ok, Err, if◌then◌else◌}
+-- What stands at the beginning of some bytes: a proper prefix of a frame, a malformed frame, or a frame and its length
+-- in bytes (RFC 9113, sections 4.1 and 6).
+use Rattle.std.specs.Prelude.{◌≡◌, ◌+◌, ◌++◌, ◌-◌, ◌%◌, ◌==◌, nat_lt, ℕ, List, [], ◌∷◌, length, take, drop, slice_index, Option, Some, None, Result, Ok, Err, if◌then◌else◌}
 use Rattle.std.specs.Int.{w16, w32, from_be_bytes}
 use Rattle.h2_frames.specs.declared.fault.FrameFault.{FrameFault}
 use Rattle.h2_frames.specs.declared.fault.FrameFault.TheVariants as faults
@@ -14,7 +15,7 @@ abbrev pub ◌>>=◌ : {A B : Type 0} → Result A FrameFault → (A → Result 
 (Ok x) >>= f = f x
 (Err e) >>= f = Err e
 
--- the next step, where there is no offence
+-- the next step, where there is no fault
 abbrev pub unless : {B : Type 0} → Option FrameFault → Result B FrameFault → Result B FrameFault
 unless None r = r
 unless (Some e) r = Err e
@@ -72,8 +73,8 @@ payload_at at h payload =
       Ok (frames.Headers h.stream block (has 1 h.flags) (has 4 h.flags)))
     else Ok (plain_of h payload)
 
--- What stands at the beginning of bytes of which the first stands at `at`. None says that they are nothing, or a
--- proper prefix of a frame.
+-- What stands at the beginning of bytes of which the first stands at `at`. None says that they are empty, or a proper
+-- prefix of a frame.
 unfoldable pub frame_at : ℕ → List ℕ → Result (Option (Frame × ℕ)) FrameFault
 frame_at at text =
     if nat_lt (length text) 9 then Ok None
@@ -82,3 +83,7 @@ frame_at at text =
     else (do
       frame ← payload_at at (header_of text) (take (header_of text).len (drop 9 text))
       Ok (Some (frame, 9 + (header_of text).len))))
+
+-- the bytes are read as this frame, wherever they stand and whatever follows
+abbrev pub IsReadAs : List ℕ → Frame → Type 0
+IsReadAs text f = (at : ℕ) (rest : List ℕ) → frame_at at (text ++ rest) ≡ Ok (Some (f, length text))

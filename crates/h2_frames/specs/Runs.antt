@@ -1,7 +1,7 @@
 -- A run of a reader: pieces that are fed, and what is given in between.
 use Rattle.std.specs.Prelude.{◌≡◌, ℕ, List, [], ◌∷◌, ◌++◌, Some, None, Ok}
 use Rattle.h2_frames.specs.declared.frame.Frame.{Frame}
-use Rattle.h2_frames.specs.Stream.{Pending, given, fed}
+use Rattle.h2_frames.specs.Stream.{Pending, Answers, fed}
 
 -- a piece was fed, a frame was given with its place, or there was none
 pub data Event : Type 0 where
@@ -27,5 +27,5 @@ frames_of (waited ∷ es) = frames_of es
 abbrev pub Runs : Pending → List Event → Pending → Type 0
 Runs r [] s = r ≡ s
 Runs r (piece bytes ∷ es) s = (r.fault ≡ None) × Runs (fed bytes r) es s
-Runs r (frame p ∷ es) s = (t : Pending) × (given r ≡ Ok (Some p, t)) × Runs t es s
-Runs r (waited ∷ es) s = (t : Pending) × (given r ≡ Ok (None, t)) × Runs t es s
+Runs r (frame p ∷ es) s = (t : Pending) × Answers r t (Ok (Some p)) × Runs t es s
+Runs r (waited ∷ es) s = (t : Pending) × Answers r t (Ok None) × Runs t es s

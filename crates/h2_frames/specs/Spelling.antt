@@ -16,16 +16,16 @@ header_bytes len kind flags bit stream = three_bytes len ++ (kind ∷ flags ∷ 
 
 -- the type of a frame
 abbrev pub kind_of : Frame → ℕ
-kind_of (frames.Data stream bytes size end) = 0
-kind_of (frames.Headers stream block end whole) = 1
+kind_of (frames.Data stream bytes size end_stream) = 0
+kind_of (frames.Headers stream block end_stream end_headers) = 1
 kind_of (frames.Priority stream) = 2
 kind_of (frames.Reset stream code) = 3
 kind_of (frames.Settings ack values) = 4
 kind_of (frames.Push stream) = 5
 kind_of (frames.Ping ack bytes) = 6
 kind_of (frames.GoAway last code) = 7
-kind_of (frames.Window stream add) = 8
-kind_of (frames.Continuation stream block whole) = 9
+kind_of (frames.Window stream increment) = 8
+kind_of (frames.Continuation stream block end_headers) = 9
 kind_of (frames.Unknown kind) = kind
 
 -- a number of 31 bits behind a reserved bit
@@ -53,10 +53,10 @@ AreSettings text (s ∷ ss) = (rest : List ℕ) × (s.0 < 2 ^ 16) × (s.1 < 2 ^ 
 -- The flags, the stream and the payload of a frame: END_STREAM and ACK are 1, END_HEADERS is 4, PADDED is 8, and
 -- PRIORITY is 32.
 abbrev pub IsPayload : ℕ → ℕ → List ℕ → Frame → Type 0
-IsPayload flags on payload (frames.Data stream bytes size end) =
-    (stream ≡ on) × (0 < on) × (size ≡ length payload) × (end ≡ has 1 flags) × IsPadded (has 8 flags) 0 payload bytes
-IsPayload flags on payload (frames.Headers stream block end whole) =
-    (stream ≡ on) × (0 < on) × (end ≡ has 1 flags) × (whole ≡ has 4 flags)
+IsPayload flags on payload (frames.Data stream bytes size end_stream) =
+    (stream ≡ on) × (0 < on) × (size ≡ length payload) × (end_stream ≡ has 1 flags) × IsPadded (has 8 flags) 0 payload bytes
+IsPayload flags on payload (frames.Headers stream block end_stream end_headers) =
+    (stream ≡ on) × (0 < on) × (end_stream ≡ has 1 flags) × (end_headers ≡ has 4 flags)
     × IsPadded (has 8 flags) (priority_len flags) payload block
 IsPayload flags on payload (frames.Priority stream) = (stream ≡ on) × (0 < on) × (length payload ≡ 5)
 IsPayload flags on payload (frames.Reset stream code) =
@@ -69,9 +69,9 @@ IsPayload flags on payload (frames.Ping ack bytes) =
 IsPayload flags on payload (frames.GoAway last code) =
     (on ≡ 0) × ((front : List ℕ) × (debug : List ℕ) × IsNumber31 front last × (code < 2 ^ 32)
     × (payload ≡ front ++ (to_be_bytes w32 code ++ debug)))
-IsPayload flags on payload (frames.Window stream add) = (stream ≡ on) × IsNumber31 payload add
-IsPayload flags on payload (frames.Continuation stream block whole) =
-    (stream ≡ on) × (0 < on) × (whole ≡ has 4 flags) × (payload ≡ block)
+IsPayload flags on payload (frames.Window stream increment) = (stream ≡ on) × IsNumber31 payload increment
+IsPayload flags on payload (frames.Continuation stream block end_headers) =
+    (stream ≡ on) × (0 < on) × (end_headers ≡ has 4 flags) × (payload ≡ block)
 IsPayload flags on payload (frames.Unknown kind) = 9 < kind
 
 -- a spelling of a frame
@@ -98,16 +98,16 @@ framed kind flags stream payload = header_bytes (length payload) kind flags 0 st
 
 -- the frame without padding and priority fields
 unfoldable pub spelled : Frame → List ℕ
-spelled (frames.Data stream bytes size end) = framed 0 (flag end 1) stream bytes
-spelled (frames.Headers stream block end whole) = framed 1 (flag end 1 + flag whole 4) stream block
+spelled (frames.Data stream bytes size end_stream) = framed 0 (flag end_stream 1) stream bytes
+spelled (frames.Headers stream block end_stream end_headers) = framed 1 (flag end_stream 1 + flag end_headers 4) stream block
 spelled (frames.Priority stream) = framed 2 0 stream (0 ∷ 0 ∷ 0 ∷ 0 ∷ 0 ∷ [])
 spelled (frames.Reset stream code) = framed 3 0 stream (to_be_bytes w32 code)
 spelled (frames.Settings ack values) = framed 4 (flag ack 1) 0 (flat_map setting values)
 spelled (frames.Push stream) = framed 5 0 stream []
 spelled (frames.Ping ack bytes) = framed 6 (flag ack 1) 0 bytes
 spelled (frames.GoAway last code) = framed 7 0 0 (to_be_bytes w32 last ++ to_be_bytes w32 code)
-spelled (frames.Window stream add) = framed 8 0 stream (to_be_bytes w32 add)
-spelled (frames.Continuation stream block whole) = framed 9 (flag whole 4) stream block
+spelled (frames.Window stream increment) = framed 8 0 stream (to_be_bytes w32 increment)
+spelled (frames.Continuation stream block end_headers) = framed 9 (flag end_headers 4) stream block
 spelled (frames.Unknown kind) = framed kind 0 0 []
 
 -- the number of a stream, which is not the connection
@@ -116,16 +116,16 @@ IsStreamNumber stream = (0 < stream) × (stream < 2 ^ 31)
 
 -- what may be written
 abbrev pub Writable : Frame → Type 0
-Writable (frames.Data stream bytes size end) = IsStreamNumber stream × (size ≡ length bytes) × (length bytes ≤ 16384)
-Writable (frames.Headers stream block end whole) = IsStreamNumber stream × (length block ≤ 16384)
+Writable (frames.Data stream bytes size end_stream) = IsStreamNumber stream × (size ≡ length bytes) × (length bytes ≤ 16384)
+Writable (frames.Headers stream block end_stream end_headers) = IsStreamNumber stream × (length block ≤ 16384)
 Writable (frames.Priority stream) = IsStreamNumber stream
 Writable (frames.Reset stream code) = IsStreamNumber stream
 Writable (frames.Settings ack values) = (6 * length values ≤ 16384) × (IsTrue ack → values ≡ [])
 Writable (frames.Push stream) = stream < 2 ^ 31
 Writable (frames.Ping ack bytes) = Unit {0}
 Writable (frames.GoAway last code) = last < 2 ^ 31
-Writable (frames.Window stream add) = (stream < 2 ^ 31) × (add < 2 ^ 31)
-Writable (frames.Continuation stream block whole) = IsStreamNumber stream × (length block ≤ 16384)
+Writable (frames.Window stream increment) = (stream < 2 ^ 31) × (increment < 2 ^ 31)
+Writable (frames.Continuation stream block end_headers) = IsStreamNumber stream × (length block ≤ 16384)
 Writable (frames.Unknown kind) = 9 < kind
 
 -- each setting is two bytes of an identifier and four of a value
@@ -135,14 +135,21 @@ HasSettings (s ∷ ss) = (s.0 < 2 ^ 16) × (s.1 < 2 ^ 32) × HasSettings ss
 
 -- each number is one of its type in the code
 abbrev pub IsTyped : Frame → Type 0
-IsTyped (frames.Data stream bytes size end) = Unit {0}
-IsTyped (frames.Headers stream block end whole) = Unit {0}
+IsTyped (frames.Data stream bytes size end_stream) = Unit {0}
+IsTyped (frames.Headers stream block end_stream end_headers) = Unit {0}
 IsTyped (frames.Priority stream) = Unit {0}
 IsTyped (frames.Reset stream code) = code < 2 ^ 32
 IsTyped (frames.Settings ack values) = HasSettings values
 IsTyped (frames.Push stream) = Unit {0}
 IsTyped (frames.Ping ack bytes) = length bytes ≡ 8
 IsTyped (frames.GoAway last code) = code < 2 ^ 32
-IsTyped (frames.Window stream add) = Unit {0}
-IsTyped (frames.Continuation stream block whole) = Unit {0}
+IsTyped (frames.Window stream increment) = Unit {0}
+IsTyped (frames.Continuation stream block end_headers) = Unit {0}
 IsTyped (frames.Unknown kind) = Unit {0}
+
+-- a prefix of the text was added at the end, maybe nothing or all of it
+pub record AddsPart (old new text : List ℕ) : Type 0 where
+  pub front : List ℕ
+  pub rest : List ℕ
+  pub added : new ≡ old ++ front
+  pub whole : front ++ rest ≡ text

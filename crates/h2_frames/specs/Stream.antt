@@ -5,13 +5,18 @@ use Rattle.h2_frames.specs.declared.fault.FrameFault.TheVariants as faults
 use Rattle.h2_frames.specs.declared.frame.Frame.{Frame}
 use Rattle.h2_frames.specs.Reading.{◌>>=◌, Fails, frame_at}
 
--- A reader: whether the client's preface is still due, where the bytes begin that were not given out, these bytes,
--- and the refusal, if there was one. It need not keep what it gave out.
+-- A reader: whether the client's preface is still due, where the bytes begin that were not given out, these bytes (the
+-- rest), the refusal, if there was one, and how many bytes it keeps: the rest, and what it gave out and has not let go.
 pub record Pending : Type 0 where
   pub due : Bool
   pub at : ℕ
   pub rest : List ℕ
   pub fault : Option FrameFault
+  pub held : ℕ
+
+-- a reader to which no bytes were fed
+abbrev pub fresh : Bool → Pending
+fresh due = record { due = due; at = 0; rest = []; fault = None; held = 0 }
 
 -- PRI * HTTP/2.0, an empty line, SM, an empty line (RFC 9113, section 3.4)
 unfoldable pub preface : List ℕ
@@ -34,7 +39,11 @@ preface_at at text = whole_or_fault (nat_le 24 (length text)) (difference at pre
 
 -- so many bytes were given out
 abbrev pub advanced : ℕ → Pending → Pending
-advanced len r = record { due = false; at = r.at + len; rest = drop len r.rest; fault = r.fault }
+advanced len r = record r { due = false; at = r.at + len; rest = drop len r.rest }
+
+-- nothing but the rest is kept
+abbrev pub cut : Pending → Pending
+cut r = record r { held = length r.rest }
 
 -- behind the preface, where it stands there whole
 abbrev pub behind : Result Bool FrameFault → Pending → Pending
@@ -46,33 +55,37 @@ behind (Err e) r = r
 unfoldable pub begun : Pending → Pending
 begun r = if r.due then behind (preface_at r.at r.rest) r else r
 
--- what stands at the beginning of the rest: a frame and its length, None, or the first offence
+-- what stands at the beginning of the rest: a frame and its length, None for a proper prefix, or a fault
 unfoldable pub seen : Pending → Result (Option (Frame × ℕ)) FrameFault
 seen r = if r.due then (preface_at r.at r.rest >>= λ whole. Ok None) else frame_at r.at r.rest
 
--- the frame with its place, and the reader behind it
+-- the frame with its place, and the reader behind it; where there is none, the reader keeps nothing but the rest
 abbrev pub give : Pending → Option (Frame × ℕ) → Option (ℕ × Frame) × Pending
-give r None = (None, r)
+give r None = (None, cut r)
 give r (Some x) = (Some (r.at, x.0), advanced x.1 r)
 
--- what is given next, or the first offence
+-- what is given next, or a fault
 unfoldable pub given : Pending → Result (Option (ℕ × Frame) × Pending) FrameFault
 given r = seen (begun r) >>= λ o. Ok (give (begun r) o)
 
--- What a reader without a refusal answers. A refusal stays, with the place where the offence stands.
+-- What a reader without a refusal answers. The refusal stays, and the rest begins with the bytes that are refused.
 abbrev pub Answers : Pending → Pending → Result (Option (ℕ × Frame)) FrameFault → Type 0
 Answers old new (Ok o) = given old ≡ Ok (o, new)
 Answers old new (Err e) = Fails e (given old) × (new ≡ record (begun old) { fault = Some e })
 
 -- bytes that were fed: they come behind the rest, unless there was a refusal
 abbrev pub fed_by : Option FrameFault → List ℕ → Pending → Pending
-fed_by None bytes r = record r { rest = r.rest ++ bytes }
+fed_by None bytes r = record r { rest = r.rest ++ bytes; held = r.held + length bytes }
 fed_by (Some e) bytes r = r
 
 -- a reader that was fed
 abbrev pub fed : List ℕ → Pending → Pending
 fed bytes r = fed_by r.fault bytes r
 
--- where the rest begins, if there is one
+-- where bytes begin of which the first stands at `at`, if there are any
+abbrev pub place_of : ℕ → List ℕ → Option ℕ
+place_of at text = if length text == 0 then None else Some at
+
+-- where the rest begins, if it is not empty
 abbrev pub rest_place : Pending → Option ℕ
-rest_place r = if length r.rest == 0 then None else Some r.at
+rest_place r = place_of r.at r.rest

@@ -6,21 +6,21 @@ ghost use Rattle.h2_frames.specs.declared.fault.FrameFault.TheVariants.{OutOfMem
 use proto_wire::OutOfMemory;
 use std::alloc::{AllocError, AllocFailed};
 
-/// Why bytes are no frames. `at` is a place among all bytes: of the first byte of the frame that offends, and for the
-/// preface of the first byte that differs.
+/// Why bytes are malformed. `at` counts all bytes of the connection from 0: it is the place of the first byte of the
+/// malformed frame, and for the preface of the first byte that differs.
 #[derive(Clone, Copy, Debug, PartialEq, Eq)]
 pub enum FrameFault {
     /// The bytes do not begin with the client's connection preface.
     BadPreface { at: u64 },
     /// The payload is longer than 16,384 bytes.
     TooLong { at: u64 },
-    /// The payload has another length than its type allows.
+    /// The type does not allow the length of the payload.
     BadLength { at: u64 },
-    /// The padding is longer than what is left of the payload.
+    /// The padding is longer than the rest of the payload.
     BadPadding { at: u64 },
-    /// The type does not go with stream 0, or with another stream.
+    /// The type is not allowed on stream 0, or is allowed on stream 0 alone.
     BadStream { at: u64 },
-    /// There was no memory for the bytes.
+    /// Memory ran out.
     OutOfMemory,
 }
 

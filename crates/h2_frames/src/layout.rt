@@ -5,10 +5,10 @@ ghost use Rattle.h2_frames.specs.Layout.{has, is_on_stream, is_on_connection, pa
 
 use crate::fault::FrameFault;
 
-/// How many bytes stand before a payload.
+/// The length of a header in bytes (section 4.1).
 pub(crate) const HEADER_LEN: usize = 9;
 
-/// How long a payload may be.
+/// The length in bytes that a payload may have at most: the initial SETTINGS_MAX_FRAME_SIZE (section 6.5.2).
 const MAX_PAYLOAD: usize = 16_384;
 
 pub(crate) const DATA: u8 = 0;
@@ -131,7 +131,7 @@ fn is_bad_length(h: Header) -> bool
     h.kind == GOAWAY && len < 8
 }
 
-/// The first offence of a frame that its header shows.
+/// The first offence that the header shows of the frame.
 #[tactic(auto, unfolding(crate::specs::Layout::offence))]
 pub(crate) fn offence(at: u64, h: Header) -> Option<FrameFault>
     requires { h.len < 2 ^ 32 }

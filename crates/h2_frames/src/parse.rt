@@ -14,10 +14,10 @@ use crate::layout::{
 use proto_wire::{Bytes, Listed, OutOfMemory};
 use std::alloc::Global;
 
-/// How many bytes a setting takes.
+/// The length of a setting in bytes.
 const SETTING_LEN: usize = 6;
 
-/// The top bit of a stream number or of a window's increment is reserved.
+/// The top bit of a stream identifier or of an increment is reserved.
 const RESERVED: u32 = 0x8000_0000;
 
 fn number_in(bytes: &[u8], i: usize) -> u32
@@ -141,8 +141,8 @@ fn payload_in(alloc: Global, at: u64, h: Header, payload: &[u8]) -> Result<Frame
     Ok(plain(alloc, h, payload)?)
 }
 
-/// What stands at the beginning of the bytes, the first of which stands at `at`: a frame and its length, or `None`
-/// where they are nothing or a proper prefix of a frame.
+/// What stands at the beginning of the bytes, the first of which stands at `at`: a frame and its length in bytes, or
+/// `None` if they are empty or a proper prefix of a frame.
 #[tactic(auto, using(crate::proofs::Headers::sound), unfolding(crate::specs::Reading::frame_at))]
 pub(crate) fn frame_in(
     alloc: Global,

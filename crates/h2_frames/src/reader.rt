@@ -1,8 +1,9 @@
-//! `FrameReader`.
+//! `FrameReader`. Of its calls `feed` and `next` alone take memory.
 
-ghost use Rattle.std.specs.Prelude.{◌≡◌, ◌+◌, ◌≤◌, ◌<◌, ◌^◌, [], length, drop, vec_len, None, Some, Err, IsNone, IfSome, IfOk, IfErr, OnOk, OnErr};
+ghost use Rattle.std.specs.Prelude.{◌≡◌, ◌+◌, ◌≤◌, ◌<◌, ◌^◌, ◌↔◌, length, drop, vec_len, None, Some, Err, IsErr, IsNone, IfSome, IfOk, IfErr, OnOk, OnErr};
+ghost use Rattle.proto_wire.specs.Reading.{IsBytes};
 ghost use Rattle.h2_frames.specs.Reading.{Gives};
-ghost use Rattle.h2_frames.specs.Stream.{Pending, preface, difference, preface_at, advanced, begun, seen, Answers, fed, rest_place};
+ghost use Rattle.h2_frames.specs.Stream.{Pending, fresh, preface, difference, preface_at, advanced, cut, begun, seen, Answers, fed, rest_place};
 ghost use Rattle.h2_frames.specs.declared.fault.FrameFault.TheVariants.{OutOfMemory as NoMemory};
 
 use crate::fault::FrameFault;
@@ -12,7 +13,7 @@ use proto_wire::OutOfMemory;
 use std::alloc::Global;
 use std::marker::Model;
 
-/// What a client sends before its first frame.
+/// What a client sends before its first frame (RFC 9113, section 3.4).
 const PREFACE: [u8; 24] = *b"PRI * HTTP/2.0\r\n\r\nSM\r\n\r\n";
 
 /// The place of the first byte that differs, where the first byte of both stands at `at`.
@@ -36,7 +37,7 @@ fn difference(at: u64, wanted: &[u8], bytes: &[u8]) -> Option<u64>
     }
 }
 
-/// Whether the whole preface stands at the beginning of the bytes. A proper prefix of it is no fault.
+/// Whether the bytes begin with the whole preface. Bytes that are a proper prefix of it are no fault.
 #[tactic(auto, unfolding(crate::specs::Stream::preface_at, crate::specs::Stream::preface))]
 fn preface_in(at: u64, bytes: &[u8]) -> Result<bool, FrameFault>
     requires { at ≤ 2 ^ 60 }
@@ -57,7 +58,7 @@ fn drop_front(bytes: &mut Vec<u8>, count: usize)
     bytes.truncate(len - count);
 }
 
-/// Takes the bytes of a connection in pieces, and gives its frames. Bytes that it gave out are not kept.
+/// Takes the bytes of a connection in pieces, and gives its frames. A refusal is answered for good.
 #[derive(Drop)]
 pub struct FrameReader {
     alloc: Global,
@@ -74,16 +75,16 @@ impl Model for FrameReader {
 
     ghost Value = { Pending };
 
-    ghost view = { λ r. record { due = r.due; at = r.at; rest = drop r.start r.buffer.items; fault = r.fault } };
+    ghost view = { λ r. record { due = r.due; at = r.at; rest = drop r.start r.buffer.items; fault = r.fault; held = vec_len r.buffer } };
 
     ghost invariant = { λ r. (r.start ≤ vec_len r.buffer) × (r.at + length (drop r.start r.buffer.items) ≤ 2 ^ 60) };
 }
 
 impl FrameReader {
-    /// No bytes were fed. With `preface` the client's connection preface is due before the first frame. It takes no
-    /// memory.
+    /// A reader to which no bytes were fed. With `preface` the client's connection preface is due before the first
+    /// frame.
     pub fn new(alloc: Global, preface: bool) -> FrameReader
-        ensures { result ≡ record { due = preface; at = 0; rest = []; fault = None } }
+        ensures { result ≡ fresh preface }
     {
         FrameReader {
             alloc,
@@ -95,27 +96,29 @@ impl FrameReader {
         }
     }
 
-    /// Adds bytes at the end of what was fed. Behind a refusal they are let go. Without memory for them the reader
-    /// refuses from then on.
+    /// Adds bytes at the end of what was fed. Without memory for them the reader refuses from then on. After want of
+    /// memory it answers so again. After any other refusal, which `OutOfMemory` can't name, it lets the bytes go and
+    /// answers `Ok`: `next` tells the refusal.
     pub fn feed(&mut self, bytes: &[u8]) -> Result<(), OutOfMemory>
         requires { self.old.at + (length self.old.rest + length bytes.now) ≤ 2 ^ 60 }
+        ensures latched { IfSome self.old.fault (λ e. (IsErr result ↔ (e ≡ NoMemory)) × (self.new ≡ self.old)) }
         ensures ok { OnOk result (self.new ≡ fed bytes.now self.old) }
-        ensures err { OnErr result ((self.old.fault ≡ None) × (self.new ≡ record self.old { fault = Some NoMemory })) }
+        ensures err { OnErr result (self.new ≡ record self.old { fault = Some NoMemory }) }
         ensures count { self.new.at + length self.new.rest ≤ self.old.at + (length self.old.rest + length bytes.now) }
+        ensures held { self.new.held ≤ self.old.held + length bytes.now }
+        // A caller learns here what the type of the bytes says.
+        ensures bytes { IsBytes bytes.now }
     {
-        if self.fault.is_some() {
-            return Ok(());
+        match self.fault {
+            Some(FrameFault::OutOfMemory) => Err(OutOfMemory),
+            Some(_) => Ok(()),
+            None => self.add(bytes),
         }
-        let added = self.buffer.extend_from_slice(bytes);
-        if added.is_err() {
-            self.fault = Some(FrameFault::OutOfMemory);
-            return Err(OutOfMemory);
-        }
-        Ok(())
     }
 
-    /// The next frame, with the place of its first byte among all bytes that were fed. `None` where the rest is
-    /// nothing, or a proper prefix of the preface or of a frame. After a refusal it answers the same for good.
+    /// The next frame, with the place of its first byte among all bytes that were fed, from 0. `None` if the rest is
+    /// empty, or a proper prefix of the preface or of a frame: then no other byte is kept. After a refusal it answers
+    /// the same for good.
     pub fn next(&mut self) -> Result<Option<(u64, Frame)>, FrameFault>
         ensures latched { IfSome self.old.fault (λ e. (result ≡ Err e) × (self.new ≡ self.old)) }
         ensures exact { IsNone self.old.fault → Answers self.old self.new result }
@@ -123,13 +126,19 @@ impl FrameReader {
         ensures count { self.new.at + length self.new.rest ≡ self.old.at + length self.old.rest }
         ensures fault { IfErr result (λ e. self.new.fault ≡ Some e) }
         ensures sound { OnOk result (self.new.fault ≡ None) }
+        ensures held { self.new.held ≤ self.old.held }
+        // The longest proper prefix of a frame has 9 bytes of header and 16,383 of payload.
+        ensures limit { IfOk result (λ o. IsNone o → self.new.held ≤ 16392) }
     {
         if let Some(fault) = self.fault {
             return Err(fault);
         }
-        self.begin();
-        match self.look() {
-            Ok(None) => Ok(None),
+        self.skip_preface();
+        match self.parse_front() {
+            Ok(None) => {
+                self.cut();
+                Ok(None)
+            }
             Ok(Some((frame, len))) => {
                 let at = self.advance(len);
                 Ok(Some((at, frame)))
@@ -141,14 +150,23 @@ impl FrameReader {
         }
     }
 
-    /// How many bytes were fed, but those behind a refusal. It takes no memory.
+    /// How many bytes were fed, but for those after a refusal.
     pub fn fed(&self) -> u64
         ensures { result ≡ self.now.at + length self.now.rest }
     {
         self.at + (self.buffer.len() - self.start) as u64
     }
 
-    /// The place of the first byte that was not given out, where there is one. It takes no memory.
+    /// How many bytes it keeps: those that it has not given out, and those that it has and will let go when `next`
+    /// answers `None`.
+    pub fn held(&self) -> u64
+        ensures held { result ≡ self.now.held }
+        ensures rest { length self.now.rest ≤ result }
+    {
+        self.buffer.len() as u64
+    }
+
+    /// The place among all bytes that were fed, from 0, of the first byte that was not given out, if there is one.
     pub fn rest_at(&self) -> Option<u64>
         ensures { result ≡ rest_place self.now }
     {
@@ -158,9 +176,23 @@ impl FrameReader {
         Some(self.at)
     }
 
-    /// Goes behind the preface where it is due and whole.
+    fn add(&mut self, bytes: &[u8]) -> Result<(), OutOfMemory>
+        requires room { self.old.at + (length self.old.rest + length bytes.now) ≤ 2 ^ 60 }
+        requires sound { self.old.fault ≡ None }
+        ensures ok { OnOk result (self.new ≡ fed bytes.now self.old) }
+        ensures err { OnErr result (self.new ≡ record self.old { fault = Some NoMemory }) }
+    {
+        let added = self.buffer.extend_from_slice(bytes);
+        if added.is_err() {
+            self.fault = Some(FrameFault::OutOfMemory);
+            return Err(OutOfMemory);
+        }
+        Ok(())
+    }
+
+    /// Goes behind the preface if it is due and whole.
     #[tactic(auto, unfolding(crate::specs::Stream::begun))]
-    fn begin(&mut self)
+    fn skip_preface(&mut self)
         ensures { self.new ≡ begun self.old }
     {
         if !self.due {
@@ -173,7 +205,7 @@ impl FrameReader {
 
     /// What stands at the beginning of the rest.
     #[tactic(auto, unfolding(crate::specs::Stream::seen))]
-    fn look(&self) -> Result<Option<(Frame, usize)>, FrameFault>
+    fn parse_front(&self) -> Result<Option<(Frame, usize)>, FrameFault>
         ensures exact { Gives (λ o. o) result (seen self.now) }
         ensures within { IfOk result (λ o. IfSome o (λ x. x.1 ≤ length self.now.rest)) }
     {
@@ -185,7 +217,7 @@ impl FrameReader {
         frame_in(self.alloc, self.at, rest)
     }
 
-    /// Gives out the first bytes of the rest, and answers where they stood.
+    /// Gives out the first bytes of the rest, and answers where they stood. They are kept until `cut`.
     fn advance(&mut self, len: usize) -> u64
         requires { len ≤ length self.old.rest }
         ensures at { result ≡ self.old.at }
@@ -195,11 +227,19 @@ impl FrameReader {
         self.due = false;
         self.at += len as u64;
         self.start += len;
-        if self.start > self.buffer.len() / 2 {
-            drop_front(&mut self.buffer, self.start);
-            self.start = 0;
-        }
         at
+    }
+
+    /// Lets go of what was given out.
+    fn cut(&mut self)
+        ensures cut { self.new ≡ cut self.old }
+        ensures less { self.new.held ≤ self.old.held }
+    {
+        if self.start == 0 {
+            return;
+        }
+        drop_front(&mut self.buffer, self.start);
+        self.start = 0;
     }
 
     fn refuse(&mut self, fault: FrameFault)

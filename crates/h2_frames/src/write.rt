@@ -3,8 +3,8 @@
 ghost use Rattle.std.specs.Prelude.{◌≡◌, ◌++◌, ◌+◌, ◌*◌, ◌<◌, ◌≤◌, ◌^◌, length, OnOk, OnErr};
 ghost use Rattle.std.specs.List.{flat_map};
 ghost use Rattle.std.specs.Int.{w32, to_be_bytes};
-ghost use Rattle.proto_wire.specs.Spelling.{Extends};
-ghost use Rattle.h2_frames.specs.Spelling.{header_bytes, setting, flag, framed, spelled, Writable};
+ghost use Rattle.h2_frames.specs.Spelling.{header_bytes, setting, flag, framed, spelled, Writable, HasSettings, IsTyped, IsSpelling, AddsPart};
+ghost use Rattle.h2_frames.specs.Reading.{IsReadAs};
 
 use crate::frame::Frame;
 use crate::layout::{
@@ -62,7 +62,7 @@ fn push_framed(
 ) -> Result<(), OutOfMemory>
     requires { length payload.now ≤ 16384 }
     ensures ok { OnOk result (out.new ≡ out.old ++ framed kind flags stream payload.now) }
-    ensures err { OnErr result (Extends out.old out.new) }
+    ensures err { OnErr result (AddsPart out.old out.new (framed kind flags stream payload.now)) }
 {
     out.push_slice(&header(payload.len(), kind, flags, stream))?;
     out.push_slice(payload)
@@ -71,7 +71,8 @@ fn push_framed(
 fn push_settings(out: &mut Bytes, ack: bool, values: &[(u16, u32)]) -> Result<(), OutOfMemory>
     requires { 6 * length values.now ≤ 16384 }
     ensures ok { OnOk result (out.new ≡ out.old ++ framed 4 (flag ack 1) 0 (flat_map setting values.now)) }
-    ensures err { OnErr result (Extends out.old out.new) }
+    ensures err { OnErr result (AddsPart out.old out.new (framed 4 (flag ack 1) 0 (flat_map setting values.now))) }
+    ensures typed { OnOk result (HasSettings values.now) }
 {
     out.push_slice(&header(6 * values.len(), SETTINGS, flag(ack, ACK), 0))?;
     'values: for (name, value) in values {
@@ -80,13 +81,12 @@ fn push_settings(out: &mut Bytes, ack: bool, values: &[(u16, u32)]) -> Result<()
     Ok(())
 }
 
-/// Adds the frame at the end, without padding and, for HEADERS, without priority fields.
 #[tactic(auto, unfolding(crate::specs::Spelling::spelled))]
-pub fn write_frame(frame: &Frame, out: &mut Bytes) -> Result<(), OutOfMemory>
+fn push_frame(out: &mut Bytes, frame: &Frame) -> Result<(), OutOfMemory>
     requires { Writable frame.now }
     ensures ok { OnOk result (out.new ≡ out.old ++ spelled frame.now) }
-    // Memory ran out, and a part of the frame may be there.
-    ensures err { OnErr result (Extends out.old out.new) }
+    ensures err { OnErr result (AddsPart out.old out.new (spelled frame.now)) }
+    ensures typed { OnOk result (IsTyped frame.now) }
 {
     match frame {
         Frame::Data {
@@ -94,10 +94,7 @@ pub fn write_frame(frame: &Frame, out: &mut Bytes) -> Result<(), OutOfMemory>
             bytes,
             end,
             ..
-        } => {
-            let flags = flag(*end, END_STREAM);
-            push_framed(out, DATA, flags, *stream, bytes.as_slice())
-        }
+        } => push_framed(out, DATA, flag(*end, END_STREAM), *stream, bytes.as_slice()),
         Frame::Headers {
             stream,
             block,
@@ -128,4 +125,17 @@ pub fn write_frame(frame: &Frame, out: &mut Bytes) -> Result<(), OutOfMemory>
         }
         Frame::Unknown { kind } => push_framed(out, *kind, 0, 0, &[]),
     }
+}
+
+/// Adds the frame at the end, without padding and, for HEADERS, without priority fields. Without memory for all of it a
+/// prefix of it may have been added.
+pub fn write_frame(frame: &Frame, out: &mut Bytes) -> Result<(), OutOfMemory>
+    requires { Writable frame.now }
+    ensures ok { OnOk result (out.new ≡ out.old ++ spelled frame.now) }
+    ensures err { OnErr result (AddsPart out.old out.new (spelled frame.now)) }
+    // What was added is a spelling of this frame, and is read as this frame.
+    ensures spelling { OnOk result (IsSpelling (spelled frame.now) frame.now) }
+    ensures again { OnOk result (IsReadAs (spelled frame.now) frame.now) }
+{
+    push_frame(out, frame)
 }

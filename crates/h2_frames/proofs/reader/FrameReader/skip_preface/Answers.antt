@@ -1,7 +1,7 @@
 use Rattle.std.proofs.Common.{◌≤◌, length, sym, subst, ◌∙◌}
 use Rattle.h2_frames.specs.Stream.{Pending}
 use Rattle.h2_frames.proofs.ReaderLemmas.{whole_long, long_behind, is_whole}
-use Rattle.h2_frames.proofs.reader.FrameReader.begin.Goals as goal
+use Rattle.h2_frames.proofs.reader.FrameReader.skip_preface.Goals as goal
 
 pub advance-requires : goal.advance-requires
 advance-requires c =
