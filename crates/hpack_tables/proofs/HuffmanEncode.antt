@@ -1,13 +1,14 @@
 -- The codes that are set, and the bits that are appended.
 use Rattle.std.proofs.Common.{◌≡◌, ℕ, suc, ◌+◌, ◌-◌, ◌*◌, ◌/◌, ◌%◌, ◌^◌, ◌<◌, ◌≤◌, Bool, true, List, [], ◌∷◌, ◌++◌, length, take, drop, get_or, set, replicate, ◌⊎◌, inl, inr, refl, sym, ◌∙◌, ap, subst, arith, append_assoc, append-nil, length-drop, length-set, drop-cons, add-one}
 use Rattle.std.specs.Prelude.{flat_map, sum, nat_lt, Contains, All}
-use Rattle.std.specs.List.{list_all, AllByRecursion}
+use Rattle.std.specs.List.{list_all}
 use Rattle.std.proofs.lemmas.Bool.{ltb-true, cases_eq, eq-eqb}
 use Rattle.std.proofs.lemmas.List.{get_or-set_other, get_or-set_same, get_or-replicate, get_or-take, get_or-drop, drop-drop, length-take-le, take_more, take_all}
 use Rattle.std.proofs.lemmas.List.Sums.{sum_by-cons, AllPass-from_list_all}
 use Rattle.std.proofs.lemmas.Grind.{flat_map-append}
 use Rattle.std.proofs.lemmas.Nat.{pow_pos, pow-add, shl_whole, one_shl, div-mul-add, mod-mul-add}
 use Rattle.std.proofs.Math.Nat.{mod-eq_of_lt, mod-lt, mul-le-mul_right}
+use Rattle.proto_wire.specs.Reading.{IsBytes}
 use Rattle.hpack_tables.specs.Huffman.{Code, IsHuffman, all_codes, one_length, code_of, number_bits, bits_of}
 use Rattle.hpack_tables.specs.HuffmanWalk.{codes_from, end_of}
 use Rattle.hpack_tables.specs.HuffmanSpelling.{IsSetBut, IsShort, IsRest, IsPadded, bits_in, with_symbol}
@@ -262,11 +263,7 @@ next_text codes bytes i d old new before after h code so_far e =
     ∙ sym (flat_map-append code_of (take i bytes) (get_or bytes i 0 ∷ []))
     ∙ ap (flat_map code_of) (sym (take_more bytes i 0 h))
 
-pub all_bytes : (bytes : List ℕ) → ((i : ℕ) → get_or bytes i 0 < 256) → AllByRecursion (λ symbol. symbol < 256) bytes
-all_bytes [] h = tt
-all_bytes (b ∷ bytes) h = (h 0, all_bytes bytes (λ i. h (suc i)))
-
-pub coded : (bytes items : List ℕ) (rest : Bits) (i : ℕ) (last : List ℕ) → AllByRecursion (λ symbol. symbol < 256) bytes → length bytes ≤ i →
+pub coded : (bytes items : List ℕ) (rest : Bits) (i : ℕ) (last : List ℕ) → IsBytes bytes → length bytes ≤ i →
     bits_of items ++ bits_in rest ≡ flat_map code_of (take i bytes) → IsPadded (bits_of last) (bits_of items ++ bits_in rest) → IsHuffman last bytes
 coded bytes items rest i last small done so_far p = record {
   ones = p.ones;

@@ -1,11 +1,11 @@
 -- A string has the one text by whose codes and a padding it is spelled, and a text has one string.
 use Rattle.std.proofs.Common.{◌≡◌, ℕ, zero, suc, ◌*◌, ◌<◌, Bool, true, false, cond, List, [], ◌∷◌, ◌++◌, length, replicate, Option, Some, None, inl, inr, refl, sym, ◌∙◌, ap, arith, append_assoc, append-nil, length-append}
 use Rattle.std.specs.Prelude.{flat_map, ◌==◌, nat_lt}
-use Rattle.std.specs.List.{list_all, AllByRecursion}
+use Rattle.std.specs.List.{list_all}
 use Rattle.std.proofs.lemmas.Bool.{and_parts, ltb-true, cases_Bool, eqb-false, ne_eqb}
 use Rattle.std.proofs.lemmas.List.{length-replicate}
 use Rattle.hpack_tables.specs.Huffman.{Code, IsHuffman, all_codes, code_bits, code_of, code_with, same_bits, number_bits, bits_of, text_behind, text_of, behind_code, before_text, by_code, is_padding}
-use Rattle.hpack_tables.specs.Block.{AreBytes}
+use Rattle.proto_wire.specs.Reading.{IsBytes}
 use Rattle.hpack_tables.proofs.HuffmanBits.{value, length-number_bits, value-number_bits, same_bits-true}
 use Rattle.hpack_tables.proofs.HuffmanCode.{IsIn, Found, some, IsCode, is_code, prefix, code_with-Found, code_with-code_bits, code_for}
 use Rattle.hpack_tables.proofs.HuffmanText.{text_of-begin}
@@ -14,7 +14,7 @@ use Rattle.hpack_tables.proofs.HuffmanText.{text_of-begin}
 record Spells (bits : List Bool) (text : List ℕ) : Type 0 where
   ones : ℕ
   few : ones < 8
-  symbols : AllByRecursion (λ symbol. symbol < 256) text
+  symbols : IsBytes text
   spelled : bits ≡ flat_map code_of text ++ replicate ones true
 
 pub all_true : (bits : List Bool) → list_all (λ bit. bit) bits ≡ true → bits ≡ replicate (length bits) true
@@ -28,16 +28,20 @@ read_end taken text h = elim (cases_Bool (is_padding taken)) [
       (let e : ◌≡◌ {A = Option (List ℕ)} (Some []) (Some text) = rw t at h in
       let nil : [] ≡ text = cc in
       let p = and_parts (nat_lt (length taken) 8) (list_all (λ bit. bit) taken) t in
-      rw (← nil, append-nil taken) (record { ones = length taken; few = ltb-true (length taken) 8 p.0; symbols = tt; spelled = all_true taken p.1 }))
+      rw (← nil, append-nil taken) (record { ones = length taken; few = ltb-true (length taken) 8 p.0; symbols = λ i. omega arith; spelled = all_true taken p.1 }))
   | inr f ↦ (let e : ◌≡◌ {A = Option (List ℕ)} None (Some text) = rw f at h in cc)
 ]
+
+bytes_cons : (b : ℕ) (bytes : List ℕ) → b < 256 → IsBytes bytes → IsBytes (b ∷ bytes)
+bytes_cons b bytes is more zero = is
+bytes_cons b bytes is more (suc i) = more i
 
 -- a code before what spells a text
 spells_code : (c : Code) (bits : List Bool) (text : List ℕ) → IsCode c → (c.symbol ≡ 256 → ⊥) → Spells bits text → Spells (code_bits c ++ bits) (c.symbol ∷ text)
 spells_code c bits text is ne s = record {
   ones = s.ones;
   few = s.few;
-  symbols = (omega (arith, is.symbol), s.symbols);
+  symbols = bytes_cons c.symbol text (omega (arith, is.symbol)) s.symbols;
   spelled =
       ap (λ more. code_bits c ++ more) s.spelled
       ∙ sym (append_assoc (code_bits c) (flat_map code_of text) (replicate s.ones true))
@@ -98,10 +102,10 @@ module _ (c : Code) (i : IsIn c all_codes) (rest : List Bool) where
       let no = not_yet (taken ++ b ∷ []) (b' ∷ bits) (code_with (taken ++ b ∷ [])) e' (omega arith) (code_with-Found (taken ++ b ∷ [])) in
       rw no (text_code_from (b' ∷ bits) (taken ++ b ∷ []) e' (omega arith))
 
-  text_code : text_behind [] (code_bits c ++ rest) ≡ behind_code c (text_behind [] rest)
+  pub text_code : text_behind [] (code_bits c ++ rest) ≡ behind_code c (text_behind [] rest)
   text_code = text_code_from (code_bits c) [] refl (omega (arith, length-number_bits c.len c.number, (is_code c i).some))
 
-text_padding : (ones : ℕ) → ones < 8 → text_behind [] (replicate ones true) ≡ Some []
+pub text_padding : (ones : ℕ) → ones < 8 → text_behind [] (replicate ones true) ≡ Some []
 unfolding text_behind code_with all_codes
 text_padding zero h = refl
 text_padding (suc zero) h = refl
@@ -122,11 +126,11 @@ text_symbol s rest text l h =
     let no : c.symbol == 256 ≡ false = ne_eqb c.symbol 256 (λ e. omega (arith, found.2, l)) in
     rw of (text_code c found.1 rest ∙ rw (no, h, found.2) refl)
 
-text_spelled : (text : List ℕ) (ones : ℕ) → AllByRecursion (λ symbol. symbol < 256) text → ones < 8 → text_behind [] (flat_map code_of text ++ replicate ones true) ≡ Some text
+text_spelled : (text : List ℕ) (ones : ℕ) → IsBytes text → ones < 8 → text_behind [] (flat_map code_of text ++ replicate ones true) ≡ Some text
 text_spelled [] ones a h = text_padding ones h
 text_spelled (s ∷ text) ones a h =
     rw (append_assoc (code_of s) (flat_map code_of text) (replicate ones true))
-    (text_symbol s (flat_map code_of text ++ replicate ones true) text a.0 (text_spelled text ones a.1 h))
+    (text_symbol s (flat_map code_of text ++ replicate ones true) text (a 0) (text_spelled text ones (λ i. a (suc i)) h))
 
 pub spelled : (bytes text : List ℕ) → IsHuffman bytes text → text_of bytes ≡ Some text
 spelled bytes text h = text_of-begin bytes ∙ ap (text_behind []) h.bits ∙ text_spelled text h.ones h.symbols h.few
@@ -150,17 +154,17 @@ same_byte a b h k e =
     let v = ap value e in
     omega (arith, value-number_bits 8 a, value-number_bits 8 b, v)
 
-same_bytes : (a b : List ℕ) → AreBytes a → AreBytes b → bits_of a ≡ bits_of b → a ≡ b
+same_bytes : (a b : List ℕ) → IsBytes a → IsBytes b → bits_of a ≡ bits_of b → a ≡ b
 same_bytes [] [] h k e = refl
 same_bytes [] (y ∷ b) h k e = absurd (omega (arith, ap length e, length-bits_of (y ∷ b)))
 same_bytes (x ∷ a) [] h k e = absurd (omega (arith, ap length e, length-bits_of (x ∷ a)))
 same_bytes (x ∷ a) (y ∷ b) h k e =
     let p = append_parts (number_bits 8 x) (number_bits 8 y) (bits_of a) (bits_of b) (length-number_bits 8 x ∙ sym (length-number_bits 8 y)) e in
-    let q = same_byte x y h.0 k.0 p.0 in
-    let r = same_bytes a b h.1 k.1 p.1 in
+    let q = same_byte x y (h 0) (k 0) p.0 in
+    let r = same_bytes a b (λ i. h (suc i)) (λ i. k (suc i)) p.1 in
     cc
 
-pub one : (a b text : List ℕ) → AreBytes a → AreBytes b → IsHuffman a text → IsHuffman b text → a ≡ b
+pub one : (a b text : List ℕ) → IsBytes a → IsBytes b → IsHuffman a text → IsHuffman b text → a ≡ b
 one a b text h k p q =
     let m : p.ones ≡ q.ones = omega (
       arith,

@@ -1,10 +1,9 @@
 -- What the steps of the walk give of the text.
-use Rattle.std.proofs.Common.{◌≡◌, ℕ, zero, suc, ◌+◌, ◌-◌, ◌*◌, ◌/◌, ◌%◌, ◌^◌, ◌<◌, ◌≤◌, Bool, true, false, cond, List, [], ◌∷◌, ◌++◌, length, drop, Option, Some, None, inl, inr, refl, sym, ◌∙◌, ap, arith, append_assoc}
+use Rattle.std.proofs.Common.{◌≡◌, ℕ, zero, suc, ◌+◌, ◌-◌, ◌/◌, ◌%◌, ◌^◌, ◌<◌, Bool, true, false, cond, List, [], ◌∷◌, ◌++◌, length, Option, Some, None, inl, inr, refl, sym, ◌∙◌, ap, arith, append_assoc}
 use Rattle.std.specs.Prelude.{find, ◌==◌, ◌&&◌, nat_lt}
 use Rattle.std.specs.List.{list_all}
-use Rattle.std.proofs.lemmas.Bool.{ne_eqb, eq-eqb, cases_eq, lt-ltb, le-ltb}
-use Rattle.std.proofs.lemmas.Nat.{pow_pos, one_shl}
-use Rattle.std.proofs.lemmas.List.{append-nil, drop_all}
+use Rattle.std.proofs.lemmas.Bool.{ne_eqb, eq-eqb, cases_eq}
+use Rattle.std.proofs.lemmas.Nat.{pow_pos}
 use Rattle.std.proofs.Math.Nat.{mod-eq_of_lt}
 use Rattle.hpack_tables.specs.Huffman.{code_bits, code_with, same_bits, number_bits, bits_of, text_behind, text_of, before_text, is_padding}
 use Rattle.hpack_tables.specs.HuffmanWalk.{taken, IsWalk, StepsTo, later}
@@ -40,7 +39,7 @@ step_symbol : (w : Walk) (symbol : ℕ) (bit : Bool) (bits : List Bool) → Step
 unfolding text_behind
 step_symbol w symbol bit bits h = rw (h.1.1, h.1.2) refl
 
-later_symbol : (front : List ℕ) (symbol : ℕ) (text : Option (List ℕ)) → later front (before_text symbol text) ≡ later (front ++ symbol ∷ []) text
+pub later_symbol : (front : List ℕ) (symbol : ℕ) (text : Option (List ℕ)) → later front (before_text symbol text) ≡ later (front ++ symbol ∷ []) text
 later_symbol front symbol None = refl
 later_symbol front symbol (Some text) = ap Some (sym (append_assoc front (symbol ∷ []) text))
 
@@ -98,14 +97,6 @@ pub text_of-begin : (bytes : List ℕ) → text_of bytes ≡ text_behind [] (bit
 unfolding text_of
 text_of-begin bytes = refl
 
-pub padded_short : (len number : ℕ) → number < 2 ^ len → len < 8 → (number + 1 == (1 * 2 ^ len) % 2 ^ 32) ≡ is_padding (number_bits len number)
-padded_short len number h l =
-    let below : len < 32 = omega arith in
-    rw (padding len number h, lt-ltb len 8 l, one_shl len 32 below) refl
-
-pub padded_long : (len number : ℕ) → number < 2 ^ len → 8 ≤ len → nat_lt len 8 ≡ is_padding (number_bits len number)
-padded_long len number h l = rw (padding len number h, le-ltb len 8 l) refl
-
 -- ---- a whole string
 
 later-nil : (text : Option (List ℕ)) → later [] text ≡ text
@@ -114,13 +105,3 @@ later-nil (Some text) = refl
 
 pub text_begin : (before bytes : List ℕ) → before ≡ [] → later before (text_behind [] (bits_of bytes)) ≡ text_of bytes
 text_begin before bytes e = rw e (later-nil (text_behind [] (bits_of bytes)) ∙ sym (text_of-begin bytes))
-
-module _ (before bytes : List ℕ) (bits : List Bool) (i : ℕ) (so_far : later before (text_behind bits (bits_of (drop i bytes))) ≡ text_of bytes) (done : length bytes ≤ i) where
-  at_end : later before (cond (is_padding bits) (Some []) None) ≡ text_of bytes
-  at_end = ap (later before) (sym (text_behind-nil bits)) ∙ ap (λ rest. later before (text_behind bits (bits_of rest))) (sym (drop_all i bytes done)) ∙ so_far
-
-  pub text_done : true ≡ is_padding bits → Some before ≡ text_of bytes
-  text_done e = ap Some (sym (append-nil before)) ∙ ap (λ b. later before (cond b (Some []) None)) e ∙ at_end
-
-  pub text_none : false ≡ is_padding bits → None ≡ text_of bytes
-  text_none e = ap (λ b. later before (cond b (Some []) None)) e ∙ at_end

@@ -4,12 +4,13 @@ use Rattle.std.specs.Prelude.{◌&&◌, is_none}
 use Rattle.std.proofs.lemmas.Bool.{le-ltb, ltb-false}
 use Rattle.std.proofs.lemmas.List.{length-append}
 use Rattle.std.proofs.lemmas.List.Sums.{sum_by-cons}
+use Rattle.proto_wire.specs.Reading.{IsBytes}
 use Rattle.hpack_tables.specs.declared.header.Header.{Header}
 use Rattle.hpack_tables.specs.declared.offence.Offence.{Offence}
 use Rattle.hpack_tables.specs.declared.fault.HpackFault.{HpackFault}
 use Rattle.hpack_tables.specs.declared.fault.HpackFault.TheVariants as faults
 use Rattle.hpack_tables.specs.Table.{HeaderTable, size_of, list_size}
-use Rattle.hpack_tables.specs.Block.{AreBytes, IsBlock, AreSteps, Step, onto, max_list}
+use Rattle.hpack_tables.specs.Block.{IsBlock, AreSteps, Step, onto, max_list}
 use Rattle.hpack_tables.specs.Reading.{Given, Place, begin, size_if, goes_on, behind, with_header, go_on, representation_at, headers_from, block_at}
 use Rattle.hpack_tables.proofs.Steps.{passed}
 use Rattle.hpack_tables.proofs.LawString.{rest_bytes}
@@ -48,13 +49,13 @@ onto_again : (h : Option Header) (later : List Header) (t' : HeaderTable) → wi
 onto_again None later t' = refl
 onto_again (Some header) later t' = refl
 
-goes_on_is : (h : Option Header) (may_update : Bool) → goes_on h may_update ≡ (may_update && is_none h)
+pub goes_on_is : (h : Option Header) (may_update : Bool) → goes_on h may_update ≡ (may_update && is_none h)
 goes_on_is None true = refl
 goes_on_is None false = refl
 goes_on_is (Some header) true = refl
 goes_on_is (Some header) false = refl
 
-size_onto : (h : Option Header) (later : List Header) → list_size (onto h later) ≡ size_if h + list_size later
+pub size_onto : (h : Option Header) (later : List Header) → list_size (onto h later) ≡ size_if h + list_size later
 size_onto None later = omega arith
 size_onto (Some header) later = sum_by-cons size_of header later
 
@@ -82,7 +83,7 @@ takes_step p bytes n g headers later t' r e s =
       small = omega (arith, s.small, size_onto g.header later, ap list_size e);
     }
 
-steps_take : (most : ℕ) (p : Place) (bytes : List ℕ) (headers : List Header) (t' : HeaderTable) → AreBytes bytes → p.size ≤ max_list
+steps_take : (most : ℕ) (p : Place) (bytes : List ℕ) (headers : List Header) (t' : HeaderTable) → IsBytes bytes → p.size ≤ max_list
     → headers_from most p bytes ≡ Ok (headers, t') → TakesSteps p bytes headers t'
 unfolding headers_from
 steps_take most p [] headers t' fits small e = takes_none p (headers, t') small (all_is ([], p.table) (headers, t') e)
@@ -95,7 +96,7 @@ steps_take (suc most) p (b ∷ rest) headers t' fits small e =
     let s = steps_take most (behind p n w.g) w.g.rest o.0 t' (rest_bytes (b ∷ rest) r.front w.g.rest r.parts fits) w.small o.1 in
     takes_step p (b ∷ rest) n w.g headers o.0 t' r o.2 s
 
-pub block_takes : (t t' : HeaderTable) (bytes : List ℕ) (headers : List Header) → AreBytes bytes → block_at t bytes ≡ Ok (headers, t') → IsBlock t bytes headers t' × (list_size headers ≤ max_list)
+pub block_takes : (t t' : HeaderTable) (bytes : List ℕ) (headers : List Header) → IsBytes bytes → block_at t bytes ≡ Ok (headers, t') → IsBlock t bytes headers t' × (list_size headers ≤ max_list)
 unfolding block_at
 block_takes t t' bytes headers fits e =
     let s = steps_take (length bytes) (begin t) bytes headers t' fits (omega arith) e in

@@ -5,7 +5,7 @@ use Rattle.std.proofs.Math.Nat.{pow-succ'}
 use Rattle.proto_wire.proofs.Steps.{chosen}
 use Rattle.hpack_tables.specs.declared.offence.Offence.TheVariants as offences
 use Rattle.hpack_tables.specs.Integer.{Groups, IsInt, filled, groups_of, int_spelled}
-use Rattle.hpack_tables.specs.Block.{AreBytes}
+use Rattle.proto_wire.specs.Reading.{IsBytes}
 use Rattle.hpack_tables.specs.Reading.{◌>>=◌, groups_at, small_int, int_at}
 use Rattle.hpack_tables.proofs.Steps.{bind_ok, held_ok, ok_is}
 
@@ -33,7 +33,7 @@ takes_more more b high rest after le byte t = record {
   short = omega (arith, t.short);
 }
 
-groups_take : (more : ℕ) (text : List ℕ) (x : ℕ × List ℕ) → AreBytes text → groups_at more text ≡ Ok x → TakesGroups more text x.0 x.1
+groups_take : (more : ℕ) (text : List ℕ) (x : ℕ × List ℕ) → IsBytes text → groups_at more text ≡ Ok x → TakesGroups more text x.0 x.1
 unfolding groups_at
 groups_take more [] x fits e = absurd cc
 groups_take zero (b ∷ rest) x fits e = absurd cc
@@ -45,8 +45,8 @@ groups_take (suc more) (b ∷ rest) x fits e =
       | inr q ↦
           let le = ltb-false _ _ q.0 in
           let h = bind_ok (groups_at more rest) (λ high. Ok (b - 128 + 128 * high.0, high.1)) x q.1 in
-          let t = groups_take more rest h.0 fits.1 h.1 in
-          subst (λ (y : ℕ × List ℕ). TakesGroups (suc more) (b ∷ rest) y.0 y.1) (ok_is (b - 128 + 128 * h.0.0, h.0.1) x h.2) (takes_more more b h.0.0 rest h.0.1 le fits.0 t)
+          let t = groups_take more rest h.0 (λ k. fits (suc k)) h.1 in
+          subst (λ (y : ℕ × List ℕ). TakesGroups (suc more) (b ∷ rest) y.0 y.1) (ok_is (b - 128 + 128 * h.0.0, h.0.1) x h.2) (takes_more more b h.0.0 rest h.0.1 le (fits 0) t)
     ]
 
 groups_again : (more : ℕ) (front rest : List ℕ) (n : ℕ) → Groups front n → length front ≤ more → groups_at more (front ++ rest) ≡ Ok (n, rest)
@@ -91,7 +91,7 @@ takes_long bits high b more rest after h le small t =
       is_int = record { small = small; spelled = inr (more, t.front, refl, ap (λ (x : ℕ). x ∷ t.front) first, t.short, t.groups) };
     }
 
-pub int_takes : (bits high b : ℕ) (rest : List ℕ) (x : ℕ × List ℕ) → HasHigh bits high b → AreBytes rest → int_at bits (b ∷ rest) ≡ Ok x → TakesInt bits high (b ∷ rest) x.0 x.1
+pub int_takes : (bits high b : ℕ) (rest : List ℕ) (x : ℕ × List ℕ) → HasHigh bits high b → IsBytes rest → int_at bits (b ∷ rest) ≡ Ok x → TakesInt bits high (b ∷ rest) x.0 x.1
 unfolding int_at
 int_takes bits high b rest x h fits e =
     elim (chosen (ltb (b % 2 ^ bits) (filled bits)) (Ok (b % 2 ^ bits, rest)) (groups_at 5 rest >>= λ more. small_int (filled bits + more.0, more.1)) (Ok x) e) [

@@ -3,12 +3,13 @@ use Rattle.std.proofs.Common.{◌≡◌, ℕ, zero, suc, ◌+◌, ◌<◌, ◌�
 use Rattle.std.specs.Prelude.{◌&&◌}
 use Rattle.std.proofs.lemmas.Bool.{cases_lt, lt-ltb, le-ltb, ltb-true, ltb-false, and_parts}
 use Rattle.proto_wire.proofs.Steps.{chosen}
+use Rattle.proto_wire.specs.Reading.{IsBytes}
 use Rattle.hpack_tables.specs.declared.header.Header.{Header}
 use Rattle.hpack_tables.specs.declared.offence.Offence.{Offence}
 use Rattle.hpack_tables.specs.declared.offence.Offence.TheVariants as offences
 use Rattle.hpack_tables.specs.Integer.{IsInt}
 use Rattle.hpack_tables.specs.Table.{HeaderTable, header_at, with_entry, with_max}
-use Rattle.hpack_tables.specs.Block.{AreBytes, IsName, IsLiteral, IsRepresentation, max_table}
+use Rattle.hpack_tables.specs.Block.{IsName, IsLiteral, IsRepresentation, max_table}
 use Rattle.hpack_tables.specs.Reading.{◌>>=◌, int_at, entry_or_offence, name_by, string_at, literal_at, Given, given, indexed_at, update_at, representation_at}
 use Rattle.hpack_tables.proofs.Steps.{bind_ok, held_ok, ok_is}
 use Rattle.hpack_tables.proofs.LawInt.{TakesInt, HasHigh, IsHigh, HasFirst, int_takes, int_again, int_first, first_append, int_some}
@@ -25,7 +26,7 @@ record TakesName (t : HeaderTable) (bits high : ℕ) (bytes name rest : List ℕ
   pub parts : bytes ≡ front ++ rest
   pub is_name : IsName t bits high front name
 
-name_takes : (t : HeaderTable) (bits high : ℕ) (bytes : List ℕ) (index : ℕ) (after : List ℕ) (x : List ℕ × List ℕ) → AreBytes bytes → TakesInt bits high bytes index after
+name_takes : (t : HeaderTable) (bits high : ℕ) (bytes : List ℕ) (index : ℕ) (after : List ℕ) (x : List ℕ × List ℕ) → IsBytes bytes → TakesInt bits high bytes index after
     → name_by t (index, after) ≡ Ok x → TakesName t bits high bytes x.0 x.1
 name_takes t bits high bytes zero after x fits i e =
     let s = string_takes after x (rest_bytes bytes i.front after i.parts fits) e in
@@ -54,14 +55,14 @@ takes_value t bits high bytes name after value rest x n s e =
       is_literal = (n.front, s.front, refl, n.is_name, s.is_string);
     })
 
-literal_takes : (t : HeaderTable) (bits high b : ℕ) (rest : List ℕ) (x : Header × List ℕ) → HasHigh bits high b → AreBytes (b ∷ rest)
+literal_takes : (t : HeaderTable) (bits high b : ℕ) (rest : List ℕ) (x : Header × List ℕ) → HasHigh bits high b → IsBytes (b ∷ rest)
     → literal_at t bits (b ∷ rest) ≡ Ok x → TakesLiteral t bits high (b ∷ rest) x.0 x.1
 unfolding literal_at
 literal_takes t bits high b rest x h fits e =
     let i = bind_ok (int_at bits (b ∷ rest)) (λ index. name_by t index >>= λ name. string_at name.1 >>= λ value. Ok (record { name = name.0; value = value.0 }, value.1)) x e in
     let n = bind_ok (name_by t i.0) (λ name. string_at name.1 >>= λ value. Ok (record { name = name.0; value = value.0 }, value.1)) x i.2 in
     let v = bind_ok (string_at n.0.1) (λ value. Ok (record { name = n.0.0; value = value.0 }, value.1)) x n.2 in
-    let index = int_takes bits high b rest i.0 h fits.1 i.1 in
+    let index = int_takes bits high b rest i.0 h (λ k. fits (suc k)) i.1 in
     let name = name_takes t bits high (b ∷ rest) i.0.0 i.0.1 n.0 fits index n.1 in
     let value = string_takes n.0.1 v.0 (rest_bytes (b ∷ rest) name.front n.0.1 name.parts fits) v.1 in
     takes_value t bits high (b ∷ rest) n.0.0 n.0.1 v.0.0 v.0.1 x name value (ok_is (record { name = n.0.0; value = v.0.0 }, v.0.1) x v.2)
@@ -72,18 +73,18 @@ pub record TakesRepresentation (t : HeaderTable) (may_update : Bool) (bytes : Li
   pub parts : bytes ≡ front ++ g.rest
   pub is : IsRepresentation t may_update front g.header g.table
 
-indexed_takes : (t : HeaderTable) (may_update : Bool) (b : ℕ) (rest : List ℕ) (g : Given) → 127 < b → AreBytes (b ∷ rest)
+indexed_takes : (t : HeaderTable) (may_update : Bool) (b : ℕ) (rest : List ℕ) (g : Given) → 127 < b → IsBytes (b ∷ rest)
     → indexed_at t (b ∷ rest) ≡ Ok g → TakesRepresentation t may_update (b ∷ rest) g
 unfolding indexed_at
 indexed_takes t may_update b rest g large fits e =
-    let byte = fits.0 in
+    let byte : b < 256 = fits 0 in
     let i = bind_ok (int_at 7 (b ∷ rest)) (λ index. entry_or_offence (header_at t index.0) >>= λ entry. Ok (given (Some entry) t index.1)) g e in
     let h = bind_ok (entry_or_offence (header_at t i.0.0)) (λ entry. Ok (given (Some entry) t i.0.1)) g i.2 in
-    let index = int_takes 7 128 b rest i.0 (record { whole = omega arith; within = omega arith; few = omega arith }) fits.1 i.1 in
+    let index = int_takes 7 128 b rest i.0 (record { whole = omega arith; within = omega arith; few = omega arith }) (λ k. fits (suc k)) i.1 in
     subst (TakesRepresentation t may_update (b ∷ rest)) (ok_is (given (Some h.0) t i.0.1) g h.2)
     (record { front = index.front; parts = index.parts; is = inl (i.0.0, h.0, index.is_int, entry_ok (header_at t i.0.0) h.0 h.1, refl, refl) })
 
-added_takes : (t : HeaderTable) (may_update : Bool) (b : ℕ) (rest : List ℕ) (g : Given) → 63 < b → b ≤ 127 → AreBytes (b ∷ rest)
+added_takes : (t : HeaderTable) (may_update : Bool) (b : ℕ) (rest : List ℕ) (g : Given) → 63 < b → b ≤ 127 → IsBytes (b ∷ rest)
     → (literal_at t 6 (b ∷ rest) >>= λ read. Ok (given (Some read.0) (with_entry t read.0) read.1)) ≡ Ok g → TakesRepresentation t may_update (b ∷ rest) g
 added_takes t may_update b rest g large small fits e =
     let r = bind_ok (literal_at t 6 (b ∷ rest)) (λ read. Ok (given (Some read.0) (with_entry t read.0) read.1)) g e in
@@ -91,7 +92,7 @@ added_takes t may_update b rest g large small fits e =
     subst (TakesRepresentation t may_update (b ∷ rest)) (ok_is (given (Some r.0.0) (with_entry t r.0.0) r.0.1) g r.2)
     (record { front = l.front; parts = l.parts; is = inr (inl (r.0.0, l.is_literal, refl, refl)) })
 
-update_takes : (t : HeaderTable) (may_update : Bool) (b : ℕ) (rest : List ℕ) (g : Given) → 31 < b → b ≤ 63 → AreBytes (b ∷ rest)
+update_takes : (t : HeaderTable) (may_update : Bool) (b : ℕ) (rest : List ℕ) (g : Given) → 31 < b → b ≤ 63 → IsBytes (b ∷ rest)
     → update_at t may_update (b ∷ rest) ≡ Ok g → TakesRepresentation t may_update (b ∷ rest) g
 unfolding update_at
 update_takes t may_update b rest g large small fits e =
@@ -99,11 +100,11 @@ update_takes t may_update b rest g large small fits e =
     let h = held_ok (may_update && ltb i.0.0 (max_table + 1)) offences.Update (given None (with_max t i.0.0) i.0.1) g i.2 in
     let both = and_parts may_update (ltb i.0.0 (max_table + 1)) h.0 in
     let few = ltb-true _ _ both.1 in
-    let max = int_takes 5 32 b rest i.0 (record { whole = omega arith; within = omega arith; few = omega arith }) fits.1 i.1 in
+    let max = int_takes 5 32 b rest i.0 (record { whole = omega arith; within = omega arith; few = omega arith }) (λ k. fits (suc k)) i.1 in
     subst (TakesRepresentation t may_update (b ∷ rest)) h.1
     (record { front = max.front; parts = max.parts; is = inr (inr (inr (i.0.0, max.is_int, both.0, omega arith, refl, refl))) })
 
-given_takes : (t : HeaderTable) (may_update : Bool) (b : ℕ) (rest : List ℕ) (g : Given) → b ≤ 31 → AreBytes (b ∷ rest)
+given_takes : (t : HeaderTable) (may_update : Bool) (b : ℕ) (rest : List ℕ) (g : Given) → b ≤ 31 → IsBytes (b ∷ rest)
     → (literal_at t 4 (b ∷ rest) >>= λ read. Ok (given (Some read.0) t read.1)) ≡ Ok g → TakesRepresentation t may_update (b ∷ rest) g
 given_takes t may_update b rest g small fits e =
     let r = bind_ok (literal_at t 4 (b ∷ rest)) (λ read. Ok (given (Some read.0) t read.1)) g e in
@@ -117,7 +118,7 @@ given_takes t may_update b rest g small fits e =
           record { front = l.front; parts = l.parts; is = inr (inr (inl (r.0.0, inl l.is_literal, refl, refl))) }
     ])
 
-pub representation_takes : (t : HeaderTable) (may_update : Bool) (bytes : List ℕ) (g : Given) → AreBytes bytes → representation_at t may_update bytes ≡ Ok g
+pub representation_takes : (t : HeaderTable) (may_update : Bool) (bytes : List ℕ) (g : Given) → IsBytes bytes → representation_at t may_update bytes ≡ Ok g
     → TakesRepresentation t may_update bytes g
 unfolding representation_at
 representation_takes t may_update [] g fits e = absurd cc

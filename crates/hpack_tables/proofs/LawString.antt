@@ -1,24 +1,22 @@
 -- String literals as a relation and as they are read.
-use Rattle.std.proofs.Common.{◌≡◌, ℕ, ◌+◌, ◌≤◌, inl, inr, false, true, cond, ltb, Ok, Err, Option, Some, None, List, [], ◌∷◌, ◌++◌, length, take, drop, refl, sym, ap, subst, arith, ◌∙◌, append_assoc}
+use Rattle.std.proofs.Common.{◌≡◌, ℕ, suc, ◌+◌, ◌<◌, ◌≤◌, inl, inr, false, true, cond, ltb, Ok, Err, Option, Some, None, List, [], ◌∷◌, ◌++◌, length, take, drop, refl, sym, ap, subst, arith, ◌∙◌, append_assoc}
 use Rattle.std.proofs.lemmas.Bool.{lt-ltb, le-ltb, ltb-true, ltb-false}
 use Rattle.std.proofs.lemmas.List.{length-append, length-take-le, take-append-drop, take_at, drop_at}
+use Rattle.proto_wire.proofs.Found.{IsBytes-behind}
 use Rattle.proto_wire.proofs.Steps.{chosen}
+use Rattle.proto_wire.specs.Reading.{IsBytes}
 use Rattle.hpack_tables.specs.declared.offence.Offence.TheVariants as offences
 use Rattle.hpack_tables.specs.Huffman.{IsHuffman, text_of}
 use Rattle.hpack_tables.specs.Integer.{IsInt}
-use Rattle.hpack_tables.specs.Block.{AreBytes, IsString}
+use Rattle.hpack_tables.specs.Block.{IsString}
 use Rattle.hpack_tables.specs.Reading.{int_at, text_or_offence, is_coded, string_at}
 use Rattle.hpack_tables.proofs.HuffmanLaws.{read as huffman_read, spelled as huffman_spelled}
 use Rattle.hpack_tables.proofs.Steps.{bind_ok, passed, ok_is}
 use Rattle.hpack_tables.proofs.LawInt.{TakesInt, IsHigh, HasFirst, int_takes, int_again, int_first}
 
-bytes_behind : (front rest : List ℕ) → AreBytes (front ++ rest) → AreBytes rest
-bytes_behind [] rest fits = fits
-bytes_behind (b ∷ front) rest fits = bytes_behind front rest fits.1
-
 -- what stands behind a front of bytes is bytes
-pub rest_bytes : (bytes front rest : List ℕ) → bytes ≡ front ++ rest → AreBytes bytes → AreBytes rest
-rest_bytes bytes front rest parts fits = bytes_behind front rest (subst AreBytes parts fits)
+pub rest_bytes : (bytes front rest : List ℕ) → bytes ≡ front ++ rest → IsBytes bytes → IsBytes rest
+rest_bytes bytes front rest parts fits = IsBytes-behind front rest (subst IsBytes parts fits)
 
 text_ok : (o : Option (List ℕ)) (rest : List ℕ) (x : List ℕ × List ℕ) → text_or_offence o rest ≡ Ok x → (text : List ℕ) × (o ≡ Some text) × ((text, rest) ≡ x)
 text_ok None rest x e = absurd cc
@@ -48,7 +46,7 @@ takes_coded bytes after text len i le e =
       is_string = inr (i.front, take len after, is_int, refl, huffman_read (take len after) text e);
     }
 
-pub string_takes : (bytes : List ℕ) (x : List ℕ × List ℕ) → AreBytes bytes → string_at bytes ≡ Ok x → TakesString bytes x.0 x.1
+pub string_takes : (bytes : List ℕ) (x : List ℕ × List ℕ) → IsBytes bytes → string_at bytes ≡ Ok x → TakesString bytes x.0 x.1
 unfolding string_at int_at
 string_takes [] x fits e = absurd cc
 string_takes (b ∷ rest) x fits e =
@@ -61,13 +59,13 @@ string_takes (b ∷ rest) x fits e =
     elim (chosen (ltb 127 b) (text_or_offence (text_of (take len after)) (drop len after)) (Ok (take len after, drop len after)) (Ok x) p.1) [
       | inl q ↦
           let large = ltb-true _ _ q.0 in
-          let byte = fits.0 in
-          let i = int_takes 7 128 b rest h.0 (record { whole = omega arith; within = omega arith; few = omega arith }) fits.1 h.1 in
+          let byte : b < 256 = fits 0 in
+          let i = int_takes 7 128 b rest h.0 (record { whole = omega arith; within = omega arith; few = omega arith }) (λ k. fits (suc k)) h.1 in
           let t = text_ok (text_of (take len after)) (drop len after) x q.1 in
           subst (λ (y : List ℕ × List ℕ). TakesString (b ∷ rest) y.0 y.1) t.2 (takes_coded (b ∷ rest) after t.0 len i le t.1)
       | inr q ↦
           let small = ltb-false _ _ q.0 in
-          let i = int_takes 7 0 b rest h.0 (record { whole = omega arith; within = omega arith; few = omega arith }) fits.1 h.1 in
+          let i = int_takes 7 0 b rest h.0 (record { whole = omega arith; within = omega arith; few = omega arith }) (λ k. fits (suc k)) h.1 in
           subst (λ (y : List ℕ × List ℕ). TakesString (b ∷ rest) y.0 y.1) (ok_is (take len after, drop len after) x q.1) (takes_plain (b ∷ rest) after len i le)
     ]
 

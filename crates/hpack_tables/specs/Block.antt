@@ -1,20 +1,15 @@
 -- Header blocks as a relation (RFC 7541, sections 2, 3 and 6): spellings of representations, one after the other.
-use Rattle.std.specs.Prelude.{◌≡◌, ◌<◌, ◌≤◌, ◌⊎◌, ◌&&◌, is_none, ℕ, Bool, true, List, [], ◌∷◌, ◌++◌, length, Option, Some, None}
-use Rattle.std.specs.List.{AllByRecursion}
+use Rattle.std.specs.Prelude.{◌≡◌, ◌≤◌, ◌⊎◌, ◌&&◌, is_none, ℕ, Bool, true, List, [], ◌∷◌, ◌++◌, length, Option, Some, None}
 use Rattle.hpack_tables.specs.declared.header.Header.{Header}
 use Rattle.hpack_tables.specs.Huffman.{IsHuffman}
 use Rattle.hpack_tables.specs.Integer.{IsInt}
 use Rattle.hpack_tables.specs.Table.{HeaderTable, header_at, with_entry, with_max}
 
--- each is a byte
-abbrev pub AreBytes : List ℕ → Type 0
-AreBytes bytes = AllByRecursion (λ b. b < 256) bytes
-
--- the largest maximum that a table may be given
+-- the largest maximum size of a dynamic table, in bytes
 abbrev pub max_table : ℕ
 max_table = 4_096
 
--- the largest size of a header list
+-- the largest size of a header list, in bytes: of each header its name, its value and 32
 abbrev pub max_list : ℕ
 max_list = 16_384
 
@@ -35,8 +30,8 @@ abbrev pub IsLiteral : HeaderTable → ℕ → ℕ → List ℕ → Header → T
 IsLiteral t bits high bytes header =
     (front : List ℕ) × (back : List ℕ) × (bytes ≡ front ++ back) × IsName t bits high front header.name × IsString back header.value
 
--- One representation, the header that it gives, if it gives one, and the table after it: an indexed header; a literal that
--- is added to the table; one that isn't, or never is; or a new maximum of the table, where that may stand.
+-- One representation, the header that it gives, if it gives one, and the table after it (section 6): an indexed header; a
+-- literal that is added to the table; one that isn't, or never is; or a size update, where one may stand.
 abbrev pub IsRepresentation : HeaderTable → Bool → List ℕ → Option Header → HeaderTable → Type 0
 IsRepresentation t may_update bytes header t' =
     ((index : ℕ) × (entry : Header) × IsInt 7 128 index bytes × (header_at t index ≡ Some entry) × (header ≡ Some entry) × (t' ≡ t))
@@ -55,7 +50,7 @@ abbrev pub onto : Option Header → List Header → List Header
 onto None headers = headers
 onto (Some header) headers = header ∷ headers
 
--- Representations one after the other, from a table. A new maximum stands before all headers.
+-- Representations one after the other, from a table. Size updates stand before all headers.
 abbrev pub AreSteps : HeaderTable → Bool → List Step → List ℕ → List Header → HeaderTable → Type 0
 AreSteps t may_update [] bytes headers t' = (bytes ≡ []) × (headers ≡ []) × (t' ≡ t)
 AreSteps t may_update (step ∷ steps) bytes headers t' =

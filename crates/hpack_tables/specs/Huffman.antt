@@ -1,7 +1,8 @@
 -- The code of strings (RFC 7541, section 5.2 and appendix B): the symbols of a text are its bytes, and 256 is the end symbol,
 -- which no string has.
 use Rattle.std.specs.Prelude.{◌≡◌, ◌<◌, ◌+◌, ◌-◌, ◌*◌, ◌/◌, ◌%◌, ◌^◌, ◌==◌, ◌&&◌, nat_lt, ℕ, zero, suc, Bool, true, false, List, [], ◌∷◌, ◌++◌, length, find, flat_map, replicate, Option, Some, None, if◌then◌else◌}
-use Rattle.std.specs.List.{AllByRecursion, list_all}
+use Rattle.std.specs.List.{list_all}
+use Rattle.proto_wire.specs.Reading.{IsBytes}
 
 -- the symbols by the number of bits of their codes, and those of one length in order
 abbrev pub symbols_by_length : List (ℕ × List ℕ)
@@ -99,7 +100,7 @@ code_of symbol = bits_if (find (λ code. code.symbol == symbol) all_codes)
 pub record IsHuffman (bytes text : List ℕ) : Type 0 where
   pub ones : ℕ
   pub few : ones < 8
-  pub symbols : AllByRecursion (λ symbol. symbol < 256) text
+  pub symbols : IsBytes text
   pub bits : bits_of bytes ≡ flat_map code_of text ++ replicate ones true
 
 -- ---- the same, from the left
@@ -140,6 +141,6 @@ unfoldable pub text_behind : List Bool → List Bool → Option (List ℕ)
 text_behind taken [] = if is_padding taken then Some [] else None
 text_behind taken (bit ∷ bits) = by_code (code_with (taken ++ bit ∷ [])) (text_behind (taken ++ bit ∷ []) bits) (text_behind [] bits)
 
--- the text of a string, or none where it is no such string
+-- the text of a coded string, or none if it is malformed
 unfoldable pub text_of : List ℕ → Option (List ℕ)
 text_of bytes = text_behind [] (bits_of bytes)

@@ -1,4 +1,4 @@
--- The codes that are looked up, and the bits that are no byte yet.
+-- The codes that are looked up, and the bits that don't fill a byte yet.
 use Rattle.std.specs.Prelude.{◌≡◌, ◌⊎◌, ◌<◌, ◌≤◌, ◌^◌, ℕ, Bool, true, List, ◌++◌, length, replicate, slice_index_or, Contains}
 use Rattle.hpack_tables.specs.Huffman.{Code, all_codes, number_bits}
 use Rattle.hpack_tables.specs.declared.huffman.Bits.{Bits}

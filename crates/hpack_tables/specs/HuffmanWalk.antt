@@ -1,7 +1,8 @@
 -- The walk over the bits of one code after another, with the tables that are in the code.
-use Rattle.std.specs.Prelude.{◌≡◌, ◌<◌, ◌≤◌, ◌+◌, ◌*◌, ◌^◌, ℕ, Bool, List, [], ◌∷◌, ◌++◌, length, find, take, drop, sum, Option, Some, None}
-use Rattle.hpack_tables.specs.Huffman.{Code, one_length, number_bits, code_bits, same_bits, code_with, text_behind}
+use Rattle.std.specs.Prelude.{◌≡◌, ◌<◌, ◌≤◌, ◌+◌, ◌-◌, ◌*◌, ◌/◌, ◌^◌, ℕ, Bool, List, [], ◌∷◌, ◌++◌, length, find, take, drop, sum, Option, Some, None, Contains}
+use Rattle.hpack_tables.specs.Huffman.{Code, all_codes, one_length, number_bits, code_bits, code_of, same_bits, code_with, text_behind}
 use Rattle.hpack_tables.specs.declared.huffman.Walk.{Walk}
+use Rattle.hpack_tables.specs.declared.huffman.Window.{Window}
 use Rattle.hpack_tables.specs.declared.huffman.Step.{Step}
 use Rattle.hpack_tables.specs.declared.huffman.Step.TheVariants.{More, Symbol}
 use Rattle.hpack_tables.specs.declared.huffman.TheConstants.{COUNTS, SYMBOLS}
@@ -40,8 +41,27 @@ abbrev pub later : List ℕ → Option (List ℕ) → Option (List ℕ)
 later front None = None
 later front (Some text) = Some (front ++ text)
 
--- what the bits of one byte lead to, whatever comes behind them
-abbrev pub WalksTo : Walk → ℕ → List ℕ → List ℕ → Option Walk → Type 0
-WalksTo w byte old new None = (rest : List Bool) → text_behind (taken w) (number_bits 8 byte ++ rest) ≡ None
-WalksTo w byte old new (Some next) =
-    IsWalk next × ((rest : List Bool) → later old (text_behind (taken w) (number_bits 8 byte ++ rest)) ≡ later new (text_behind (taken next) rest))
+-- ---- bits that are not read yet
+
+abbrev pub bits_left : Window → List Bool
+bits_left w = number_bits w.len w.number
+
+-- a code stands in front of the rest
+pub record IsFront (bits : List Bool) (symbol : ℕ) (rest : List Bool) : Type 0 where
+  pub code : Code
+  pub known : Contains all_codes code
+  pub same : code.symbol ≡ symbol
+  pub parts : bits ≡ code_bits code ++ rest
+
+-- the code that a byte begins with
+pub record IsShortCode (byte symbol len : ℕ) : Type 0 where
+  pub some : 0 < len
+  pub short : len ≤ 8
+  pub is_byte : symbol < 256
+  pub code : number_bits len (byte / 2 ^ (8 - len)) ≡ code_of symbol
+
+-- what the codes at the front of some bits lead to, whatever comes behind them
+abbrev pub ReadsTo : List Bool → List ℕ → List ℕ → Option Window → Type 0
+ReadsTo bits old new None = (rest : List Bool) → text_behind [] (bits ++ rest) ≡ None
+ReadsTo bits old new (Some next) =
+    (next.len < 30) × ((rest : List Bool) → later old (text_behind [] (bits ++ rest)) ≡ later new (text_behind [] (bits_left next ++ rest)))

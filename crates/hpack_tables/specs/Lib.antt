@@ -6,3 +6,4 @@ pub mod Reading
 pub mod Encoding
 pub mod HuffmanWalk
 pub mod HuffmanSpelling
+pub mod Refusal

@@ -135,7 +135,7 @@ fault_at at offences.Update = faults.BadUpdate at
 fault_at at offences.Truncated = faults.Truncated at
 fault_at at offences.OutOfMemory = faults.OutOfMemory
 
--- What was read of a block: its place, the size of the headers, whether a new maximum may stand, and the table.
+-- What was read of a block: so many bytes, the size of the headers, whether a size update may follow, and the table.
 pub record Place : Type 0 where
   pub at : ℕ
   pub size : ℕ

@@ -1,5 +1,6 @@
 -- Headers, the static table and the dynamic table (RFC 7541, sections 2.3 and 4, appendix A).
 use Rattle.std.specs.Prelude.{◌+◌, ◌-◌, nat_le, codes, ℕ, zero, suc, List, [], ◌∷◌, ◌++◌, length, sum_by, slice_get, Option, None, if◌then◌else◌}
+use Rattle.hpack_tables.specs.declared.fault.HpackFault.{HpackFault}
 use Rattle.hpack_tables.specs.declared.header.Header.{Header}
 
 -- a header with this name and value
@@ -72,7 +73,7 @@ static_entries =
     ∷ entry_of (codes "www-authenticate") []
     ∷ []
 
--- The dynamic table: its entries, the newest first, and how large they may be together.
+-- The dynamic table: its entries, the newest first, and the most that their size may be, in bytes.
 pub record HeaderTable : Type 0 where
   pub entries : List Header
   pub max : ℕ
@@ -81,7 +82,7 @@ pub record HeaderTable : Type 0 where
 abbrev pub new_table : ℕ → HeaderTable
 new_table max = record { entries = []; max = max }
 
--- the size of a header: its name, its value and 32
+-- the size of a header in bytes: its name, its value and 32 (section 4.1)
 abbrev pub size_of : Header → ℕ
 size_of header = length header.name + length header.value + 32
 
@@ -89,16 +90,16 @@ size_of header = length header.name + length header.value + 32
 abbrev pub list_size : List Header → ℕ
 list_size headers = sum_by size_of headers
 
--- As many entries from the newest on as are together no larger than this: the oldest are evicted.
+-- As many entries from the newest on as are together no larger than this, in bytes: the oldest are evicted.
 unfoldable pub fitting : ℕ → List Header → List Header
 fitting max [] = []
 fitting max (entry ∷ entries) = if nat_le (size_of entry) max then entry ∷ fitting (max - size_of entry) entries else []
 
--- One more entry. Where it is larger than the table, that is empty then.
+-- One more entry. One that is larger than the table empties it (section 4.4).
 abbrev pub with_entry : HeaderTable → Header → HeaderTable
 with_entry t header = record t { entries = fitting t.max (header ∷ t.entries) }
 
--- another maximum
+-- another maximum size (section 4.3)
 abbrev pub with_max : HeaderTable → ℕ → HeaderTable
 with_max t max = record { entries = fitting max t.entries; max = max }
 
@@ -106,3 +107,13 @@ with_max t max = record { entries = fitting max t.entries; max = max }
 unfoldable pub header_at : HeaderTable → ℕ → Option Header
 header_at t zero = None
 header_at t (suc place) = slice_get (static_entries ++ t.entries) place
+
+-- What the blocks of a connection in one direction are decoded with: the dynamic table, and the refusal of a block, if one
+-- was refused.
+pub record TableState : Type 0 where
+  pub dynamic : HeaderTable
+  pub refusal : Option HpackFault
+
+-- no block was refused
+abbrev pub unrefused : HeaderTable → TableState
+unrefused t = record { dynamic = t; refusal = None }

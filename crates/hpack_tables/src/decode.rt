@@ -1,23 +1,26 @@
-//! `decode_block`.
+//! The representations of a block, one after the other.
 
 ghost use Rattle.std.specs.Prelude.{◌≡◌, ◌+◌, ◌≤◌, ◌++◌, nat_lt, Some, None, OnOk, if◌then◌else◌};
 ghost use Rattle.std.specs.Option.{option_to_list};
 ghost use Rattle.hpack_tables.specs.Block.{max_list};
 ghost use Rattle.hpack_tables.specs.Reading.{BlockGives, size_if, goes_on, block_at};
 
+use crate::dynamic_table::DynamicTable;
 use crate::fault::HpackFault;
 use crate::header::{Header, Headers};
 use crate::representation::representation_in;
-use crate::table::Table;
 use proto_wire::OutOfMemory;
 use std::alloc::Global;
 
-/// The largest size of a header list: of each header its name, its value and 32.
+/// The largest size of a header list, in bytes: of each header its name, its value and 32.
 const MAX_LIST: usize = 16_384;
 
-/// The headers of a block, in order, from the table of the connection, which becomes the next one. It is refused at the first
-/// representation that offends. After a refusal the table isn't used again.
-pub fn decode_block(alloc: Global, table: &mut Table, block: &[u8]) -> Result<Headers, HpackFault>
+/// The headers of a block, in order, and the table after them; the first representation that is malformed refuses it.
+pub(crate) fn read_block(
+    alloc: Global,
+    table: &mut DynamicTable,
+    block: &[u8],
+) -> Result<Headers, HpackFault>
     ensures { BlockGives (λ headers. (headers, table.new)) result (block_at table.old block.now) }
 {
     let mut headers = Vec::new(alloc);
@@ -41,7 +44,7 @@ pub fn decode_block(alloc: Global, table: &mut Table, block: &[u8]) -> Result<He
     Ok(Headers::from_vec(headers))
 }
 
-/// The size of some headers with one more, if there is one; None where it is too large.
+/// The size of some headers and one more, if there is one; None above the limit.
 fn size_with(size: usize, header: &Option<Header>) -> Option<usize>
     requires { size ≤ max_list }
     ensures { result ≡ (if nat_lt max_list (size + size_if header.now) then None else Some (size + size_if header.now)) }
@@ -55,7 +58,7 @@ fn size_with(size: usize, header: &Option<Header>) -> Option<usize>
     }
 }
 
-/// Whether a new maximum may stand behind a representation.
+/// Whether a size update may follow a representation.
 fn still_may(header: &Option<Header>, may_update: bool) -> bool
     ensures { result ≡ goes_on header.now may_update }
 {

@@ -11,7 +11,7 @@ use crate::string::push_string;
 use proto_wire::{Bytes, OutOfMemory};
 use std::alloc::Global;
 
-/// The update of the table to a maximum of 0.
+/// A size update to 0 bytes.
 const SHRINK: u8 = 0x20;
 
 /// Appends the name of a literal that isn't added.
@@ -39,7 +39,8 @@ fn push_header(out: &mut Vec<u8>, header: &Header) -> Result<(), OutOfMemory>
     push_string(out, header.value.as_slice())
 }
 
-/// The block of some headers, which leaves the peer's table as it is, but that one that is to shrink it empties it first.
+/// The block of some headers. It adds nothing to the peer's dynamic table; with `shrink` it begins with a size update to 0,
+/// which empties that.
 #[tactic(auto, unfolding(crate::specs::Encoding::block_spelled))]
 pub fn encode_block(alloc: Global, headers: &Headers, shrink: bool) -> Result<Bytes, OutOfMemory>
     ensures { IfOk result (λ block. block ≡ block_spelled headers.now shrink) }

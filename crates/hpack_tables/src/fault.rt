@@ -8,20 +8,21 @@ use crate::offence::Offence;
 use proto_wire::OutOfMemory;
 use std::alloc::{AllocError, AllocFailed};
 
-/// Why a block is refused. `at` is the place in the block of the first byte of the representation that offends.
+/// Why a block is refused. `at` is the place of the first byte of the representation that is malformed, in bytes from the
+/// beginning of the block.
 #[derive(Clone, Copy, Debug, PartialEq, Eq)]
 pub enum HpackFault {
     /// The index has no entry.
     BadIndex { at: usize },
     /// An integer is above 2^32 - 1, or has more than five further bytes.
     BadInt { at: usize },
-    /// A string isn't coded by the code, or its padding is none.
+    /// A coded string is malformed: it has the end symbol, or doesn't end with fewer than eight ones behind a code.
     BadHuffman { at: usize },
-    /// A new maximum of the table stands behind a header, or is above 4,096.
+    /// A size update stands behind a header, or is to more than 4,096 bytes.
     BadUpdate { at: usize },
     /// The block ends inside the representation.
     Truncated { at: usize },
-    /// The headers up to this one have a size above 16,384.
+    /// The headers up to this one have more than 16,384 bytes: of each its name, its value and 32.
     ListTooLong { at: usize },
     OutOfMemory,
 }

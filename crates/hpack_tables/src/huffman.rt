@@ -1,13 +1,14 @@
-//! The code of strings (RFC 7541, section 5.2). A code is walked bit by bit, with the number that the first code of each
-//! length has.
+//! The code of strings (RFC 7541, section 5.2). A code of at most eight bits is looked up by its first byte; a longer one is
+//! walked bit by bit, with the number that the first code of each length has.
 
-ghost use Rattle.std.specs.Prelude.{◌≡◌, ◌⊎◌, ◌<◌, ◌≤◌, ◌+◌, ◌^◌, ◌++◌, List, [], length, take, drop, slice_index, if◌then◌else◌, Some, None, IfOk, IfErr, OnOk, All};
+ghost use Rattle.std.specs.Prelude.{◌≡◌, ◌⊎◌, ◌<◌, ◌≤◌, ◌+◌, ◌-◌, ◌^◌, ◌++◌, List, [], length, take, drop, slice_index, if◌then◌else◌, Some, None, IfOk, IfErr, OnOk, All, MatchOption};
 ghost use Rattle.hpack_tables.specs.declared.fault.HpackFault.TheVariants.{OutOfMemory as NoMemory, BadHuffman};
-ghost use Rattle.hpack_tables.specs.Huffman.{Code, IsHuffman, bits_of, is_padding, one_length, text_of};
-ghost use Rattle.hpack_tables.specs.HuffmanWalk.{IsWalk, StepsTo, WalksTo, taken};
+ghost use Rattle.hpack_tables.specs.Huffman.{Code, IsHuffman, bits_of, is_padding, number_bits, one_length, text_behind, text_of};
+ghost use Rattle.hpack_tables.specs.HuffmanWalk.{IsFront, IsWalk, ReadsTo, StepsTo, bits_left, later, taken};
 ghost use Rattle.hpack_tables.specs.HuffmanSpelling.{IsPadded, IsRest, IsSetBut, IsShort, bits_in};
 
 use crate::fault::HpackFault;
+use crate::short_codes::short_code;
 use proto_wire::{Bytes, OutOfMemory};
 use std::alloc::Global;
 
@@ -74,6 +75,9 @@ const END: u16 = 256;
 /// The bits of a byte.
 const BYTE: u32 = 8;
 
+/// The bits of the longest code.
+const LONGEST: u32 = 30;
+
 /// A padding has fewer bits than this.
 const PADDING: u32 = 8;
 
@@ -93,6 +97,14 @@ const BEGIN: Walk = Walk {
     len: 0,
     first: 0,
     at: 0,
+};
+
+/// Behind seven ones, with which each code of more than eight bits begins.
+const SEVEN_ONES: Walk = Walk {
+    number: 127,
+    len: 7,
+    first: 124,
+    at: 68,
 };
 
 /// What a bit leads to.
@@ -145,59 +157,181 @@ fn next_bit(walk: Walk, bit: bool) -> Step
     })
 }
 
-/// Walks over a byte, and adds the symbols that end in it. The walk behind it, or None at the end symbol.
-fn next_byte(from: Walk, byte: u8, text: &mut Vec<u8>) -> Result<Option<Walk>, OutOfMemory>
-    requires { IsWalk from }
-    ensures { IfOk result (λ next. WalksTo from byte text.old.items text.new.items next) }
+/// Bits of a string that are not read yet: the last `len` bits of a number.
+#[derive(Clone, Copy)]
+struct Window {
+    number: u64,
+    len: u32,
+}
+
+/// No bits.
+const EMPTY: Window = Window { number: 0, len: 0 };
+
+/// Adds bytes to a window, four or one: the window, and the bytes that are left.
+fn refilled(window: Window, bytes: &[u8]) -> (Window, &[u8])
+    requires { window.len < 30 }
+    ensures few { result.0.len < 62 }
+    ensures bits { bits_left result.0 ++ bits_of result.1.now ≡ bits_left window ++ bits_of bytes.now }
+    ensures less { 0 < length bytes.now → length result.1.now < length bytes.now }
 {
-    let mut walk = from;
-    let mut left = BYTE;
+    // Higher bits than those of the window count for nothing.
+    let number = window.number % (1 << LONGEST);
+    match bytes {
+        [a, b, c, d, rest @ ..] => {
+            let number = (number * 256 + u64::from(*a)) * 256 + u64::from(*b);
+            let number = (number * 256 + u64::from(*c)) * 256 + u64::from(*d);
+            (
+                Window {
+                    number,
+                    len: window.len + 4 * BYTE,
+                },
+                rest,
+            )
+        }
+        [byte, rest @ ..] => {
+            let number = number * 256 + u64::from(*byte);
+            (
+                Window {
+                    number,
+                    len: window.len + BYTE,
+                },
+                rest,
+            )
+        }
+        [] => (window, bytes),
+    }
+}
+
+/// The code of more than eight bits at the front of a window: its symbol, and the bits behind it.
+fn walked_code(window: Window) -> (u16, Window)
+    requires enough { 30 ≤ window.len }
+    requires few { window.len < 62 }
+    requires ones { bits_left window ≡ number_bits 7 127 ++ number_bits (window.len - 7) window.number }
+    ensures front { IsFront (bits_left window) result.0 (bits_left result.1) }
+    ensures less { result.1.len < window.len }
+{
+    let mut walk = SEVEN_ONES;
+    let mut left = window.len - SEVEN_ONES.len;
+    'bits: loop {
+        left -= 1;
+        match next_bit(walk, (window.number >> left) % 2 == 1) {
+            Step::More(next) => walk = next,
+            Step::Symbol(symbol) => {
+                let rest = Window {
+                    number: window.number,
+                    len: left,
+                };
+                return (symbol, rest);
+            }
+        }
+    }
+}
+
+/// The code at the front of a window: its symbol, and the bits behind it. None where the window may be a part of one.
+fn next_code(window: Window) -> Option<(u16, Window)>
+    requires { window.len < 62 }
+    ensures { MatchOption result (window.len < 30) (λ x. IsFront (bits_left window) x.0 (bits_left x.1) × (x.1.len < window.len)) }
+{
+    if window.len < BYTE {
+        return None;
+    }
+    if let Some((symbol, len)) = short_code(((window.number >> (window.len - BYTE)) % 256) as u8) {
+        let rest = Window {
+            number: window.number,
+            len: window.len - u32::from(len),
+        };
+        return Some((u16::from(symbol), rest));
+    }
+    if window.len < LONGEST {
+        return None;
+    }
+    Some(walked_code(window))
+}
+
+/// Reads the codes at the front of a window, and adds their symbols. What is left of it, or None at the end symbol.
+fn read_codes(from: Window, text: &mut Vec<u8>) -> Result<Option<Window>, OutOfMemory>
+    requires { from.len < 62 }
+    ensures { IfOk result (λ next. ReadsTo (bits_left from) text.old.items text.new.items next) }
+{
+    let mut window = from;
+    'codes: while let Some((symbol, rest)) = next_code(window) {
+        if symbol == END {
+            return Ok(None);
+        }
+        text.push(symbol as u8)?;
+        window = rest;
+    }
+    Ok(Some(window))
+}
+
+/// Whether the bits of a window are a padding: ones, and fewer than eight.
+fn is_padded(window: Window) -> bool
+    ensures { result ≡ is_padding (bits_left window) }
+{
+    window.len < PADDING && window.number % (1 << window.len) + 1 == 1 << window.len
+}
+
+/// Reads the last bits of a string, and adds the symbols that end in them. Whether the others are a padding.
+fn read_last(window: Window, text: &mut Vec<u8>) -> Result<bool, OutOfMemory>
+    requires { window.len < 30 }
+    ensures { IfOk result (λ whole. later text.old.items (text_behind [] (bits_left window)) ≡ (if whole then Some text.new.items else None)) }
+{
+    if is_padded(window) {
+        return Ok(true);
+    }
+    let mut walk = BEGIN;
+    let mut left = window.len;
     'bits: while left > 0 {
         left -= 1;
-        match next_bit(walk, (byte >> left) % 2 == 1) {
+        match next_bit(walk, (window.number >> left) % 2 == 1) {
             Step::More(next) => walk = next,
             Step::Symbol(symbol) => {
                 if symbol == END {
-                    return Ok(None);
+                    return Ok(false);
                 }
                 text.push(symbol as u8)?;
                 walk = BEGIN;
             }
         }
     }
-    Ok(Some(walk))
+    Ok(is_padded(walked(walk)))
 }
 
-/// Whether the bits of a walk are a padding.
-fn is_padded(walk: Walk) -> bool
-    requires { IsWalk walk }
-    ensures { result ≡ is_padding (taken walk) }
+/// The bits that a walk took.
+fn walked(walk: Walk) -> Window
+    ensures { bits_left result ≡ taken walk }
 {
-    walk.len < PADDING && walk.number + 1 == 1 << walk.len
+    Window {
+        number: u64::from(walk.number),
+        len: walk.len,
+    }
 }
 
-/// The text of a coded string, or None where it is none.
+/// The text of a coded string, or None where it is malformed.
 pub(crate) fn text_in(alloc: Global, bytes: &[u8]) -> Result<Option<Bytes>, OutOfMemory>
     ensures { IfOk result (λ text. text ≡ text_of bytes.now) }
 {
     // The shortest code has five bits.
     let most = bytes.len() / 5 * 8 + bytes.len() % 5 * 8 / 5;
     let mut text = Vec::with_capacity(alloc, most)?;
-    let mut walk = BEGIN;
-    for byte in bytes {
-        match next_byte(walk, *byte, &mut text)? {
-            Some(next) => walk = next,
+    let mut window = EMPTY;
+    let mut rest = bytes;
+    'bytes: while !rest.is_empty() {
+        let (more, behind) = refilled(window, rest);
+        match read_codes(more, &mut text)? {
+            Some(left) => window = left,
             None => return Ok(None),
         }
+        rest = behind;
     }
-    if is_padded(walk) {
+    if read_last(window, &mut text)? {
         Ok(Some(Bytes::from_vec(text)))
     } else {
         Ok(None)
     }
 }
 
-/// The text of a coded string. `BadHuffman` is at 0.
+/// The text of a coded string. One that is malformed is `BadHuffman` at 0.
 pub fn huffman_decode(alloc: Global, bytes: &[u8]) -> Result<Bytes, HpackFault>
     ensures ok { IfOk result (λ text. text_of bytes.now ≡ Some text) }
     ensures err { IfErr result (λ e. (e ≡ NoMemory) ⊎ ((e ≡ BadHuffman 0) × (text_of bytes.now ≡ None))) }
@@ -257,7 +391,7 @@ fn codes_by_symbol() -> [Bits; 257]
     codes
 }
 
-/// Appends a code behind bits that are no byte yet, and gives those that are none then.
+/// Appends a code behind bits that don't fill a byte yet, and gives those that don't after it.
 fn push_code(out: &mut Vec<u8>, before: Bits, code: Bits) -> Result<Bits, OutOfMemory>
     requires before { IsRest before }
     requires code { IsShort code }
@@ -275,7 +409,7 @@ fn push_code(out: &mut Vec<u8>, before: Bits, code: Bits) -> Result<Bits, OutOfM
     })
 }
 
-/// Appends bits that are no byte, with ones behind them up to a byte's end.
+/// Appends the bits that don't fill a byte, padded with ones.
 fn push_rest(out: &mut Vec<u8>, rest: Bits) -> Result<(), OutOfMemory>
     requires { IsRest rest }
     ensures { OnOk result (IsPadded (bits_of out.new.items) (bits_of out.old.items ++ bits_in rest)) }

@@ -7,7 +7,7 @@ ghost use Rattle.hpack_tables.specs.Reading.{Gives, groups_at, int_at};
 use crate::offence::Offence;
 use proto_wire::OutOfMemory;
 
-/// The groups behind a filled prefix, of which so many may still come, and the bytes after them.
+/// The value of the groups behind a filled prefix, at most `more` of them, and the bytes after them.
 #[tactic(auto, unfolding(crate::specs::Reading::groups_at))]
 fn groups_in(more: u8, bytes: &[u8]) -> Result<(u64, &[u8]), Offence>
     requires { more ≤ 5 }
@@ -51,7 +51,7 @@ pub(crate) fn int_in(bits: u8, bytes: &[u8]) -> Result<(u32, &[u8]), Offence>
     }
 }
 
-/// Appends a number in groups of seven bits, in at most so many.
+/// Appends a number in at most `most` groups of seven bits, the lowest first.
 fn push_groups(out: &mut Vec<u8>, most: u8, n: u64) -> Result<(), OutOfMemory>
     ensures { OnOk result (out.new.items ≡ out.old.items ++ groups_of most n) }
 {
@@ -66,7 +66,7 @@ fn push_groups(out: &mut Vec<u8>, most: u8, n: u64) -> Result<(), OutOfMemory>
     push_groups(out, most - 1, n / 128)
 }
 
-/// Appends an integer with a prefix of so many bits, below these higher ones.
+/// Appends an integer with a prefix of `bits` bits, below the higher bits `high`.
 #[tactic(auto, unfolding(crate::specs::Integer::int_spelled))]
 pub(crate) fn push_int(out: &mut Vec<u8>, bits: u8, high: u8, value: u64) -> Result<(), OutOfMemory>
     requires some { 4 ≤ bits }

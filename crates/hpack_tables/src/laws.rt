@@ -1,11 +1,11 @@
 //! What holds of the definitions alone.
 
 ghost use Rattle.std.specs.Prelude.{◌≡◌, ◌≤◌, ◌<◌, ◌^◌, ◌-◌, ◌++◌, ℕ, Bool, List, [], Some, Ok, sum_by, Contains, if◌then◌else◌};
-ghost use Rattle.std.specs.List.{AllByRecursion};
+ghost use Rattle.proto_wire.specs.Reading.{IsBytes};
 ghost use Rattle.hpack_tables.specs.declared.header.Header.{Header};
 ghost use Rattle.hpack_tables.specs.Huffman.{Code, all_codes, code_bits, IsHuffman, text_of};
 ghost use Rattle.hpack_tables.specs.Table.{HeaderTable, list_size, with_max};
-ghost use Rattle.hpack_tables.specs.Block.{IsBlock, AreBytes, max_list};
+ghost use Rattle.hpack_tables.specs.Block.{IsBlock, max_list};
 ghost use Rattle.hpack_tables.specs.Reading.{block_at};
 ghost use Rattle.hpack_tables.specs.Encoding.{block_spelled};
 
@@ -15,20 +15,20 @@ pub fn code_is_complete()
     ensures complete { sum_by (λ code. 2 ^ (30 - code.len)) all_codes ≡ 2 ^ 30 }
 {}
 
-/// A string has just the text by whose codes and a padding it is spelled, and a text has one string.
+/// A coded string has exactly the text by whose codes and a padding it is spelled, and a text has one coded string.
 pub fn strings_are_by_the_code()
     ensures read { (bytes text : List ℕ) → text_of bytes ≡ Some text → IsHuffman bytes text }
     ensures spelled { (bytes text : List ℕ) → IsHuffman bytes text → text_of bytes ≡ Some text }
-    ensures one { (a b text : List ℕ) → AreBytes a → AreBytes b → IsHuffman a text → IsHuffman b text → a ≡ b }
+    ensures one { (a b text : List ℕ) → IsBytes a → IsBytes b → IsHuffman a text → IsHuffman b text → a ≡ b }
 {}
 
-/// What is read of a block is what the grammar and the table give, where the list isn't too long.
+/// What is read of a block is what the grammar and the table relate to it, if the list is within its limit.
 pub fn blocks_are_by_the_grammar()
-    ensures read { (t t' : HeaderTable) (bytes : List ℕ) (headers : List Header) → AreBytes bytes → block_at t bytes ≡ Ok (headers, t') → IsBlock t bytes headers t' × (list_size headers ≤ max_list) }
-    ensures spelled { (t t' : HeaderTable) (bytes : List ℕ) (headers : List Header) → AreBytes bytes → IsBlock t bytes headers t' → list_size headers ≤ max_list → block_at t bytes ≡ Ok (headers, t') }
+    ensures read { (t t' : HeaderTable) (bytes : List ℕ) (headers : List Header) → IsBytes bytes → block_at t bytes ≡ Ok (headers, t') → IsBlock t bytes headers t' × (list_size headers ≤ max_list) }
+    ensures spelled { (t t' : HeaderTable) (bytes : List ℕ) (headers : List Header) → IsBlock t bytes headers t' → list_size headers ≤ max_list → block_at t bytes ≡ Ok (headers, t') }
 {}
 
-/// A block of ours gives its headers back on any table, which it leaves, or empties where it is to shrink.
+/// A block of `encode_block` gives its headers back on any table, which it leaves as it is, or empties if it is to shrink.
 pub fn encoded_is_decoded()
     ensures { (t : HeaderTable) (headers : List Header) (shrink : Bool) → list_size headers ≤ max_list → block_at t (block_spelled headers shrink) ≡ Ok (headers, if shrink then with_max t 0 else t) }
 {}

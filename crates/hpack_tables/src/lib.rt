@@ -1,8 +1,9 @@
 //! HPACK (RFC 7541): header blocks become lists of headers by their grammar and the table of the connection, and lists of
-//! headers become blocks. It knows no frames: the session above it gives whole blocks, and their order.
+//! headers become blocks. It knows no frames: the session above it gives whole blocks, in order.
 #![tactic(auto)]
 
 mod decode;
+mod dynamic_table;
 mod encode;
 mod fault;
 mod header;
@@ -11,20 +12,18 @@ mod integer;
 pub mod laws;
 mod offence;
 mod representation;
+mod short_codes;
 mod static_table;
 mod string;
 mod table;
 
-pub use decode::decode_block;
 pub use encode::encode_block;
 pub use fault::HpackFault;
 pub use header::{Header, Headers};
 pub use huffman::{huffman_decode, huffman_encode};
-pub use table::Table;
+pub use table::{Table, decode_block};
 
 #[cfg(test)]
 mod encoder_tests;
-#[cfg(test)]
-mod huffman_tests;
 #[cfg(test)]
 mod tests;

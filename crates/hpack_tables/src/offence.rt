@@ -11,13 +11,13 @@ use std::alloc::{AllocError, AllocFailed};
 pub(crate) enum Offence {
     /// The index has no entry.
     Index,
-    /// The integer is above 2^32 - 1, or has more than five further bytes.
+    /// An integer is above 2^32 - 1, or has more than five further bytes.
     Int,
-    /// The string isn't coded by the code, or its padding is none.
+    /// A coded string is malformed: it has the end symbol, or doesn't end with fewer than eight ones behind a code.
     Huffman,
-    /// A new maximum of the table stands behind a header, or is above 4,096.
+    /// A size update stands behind a header, or is to more than 4,096 bytes.
     Update,
-    /// The block ends inside it.
+    /// The block ends inside the representation.
     Truncated,
     OutOfMemory,
 }

@@ -3,21 +3,21 @@
 ghost use Rattle.std.specs.Prelude.{◌≤◌, Some, None};
 ghost use Rattle.hpack_tables.specs.Reading.{Gives, given, name_by, literal_at, indexed_at, update_at, representation_at};
 
+use crate::dynamic_table::DynamicTable;
 use crate::header::{Header, copy_of};
 use crate::integer::int_in;
 use crate::offence::Offence;
 use crate::string::string_in;
-use crate::table::Table;
 use proto_wire::Bytes;
 use std::alloc::Global;
 
-/// The largest maximum that a table may be given.
+/// The largest maximum size of the dynamic table, in bytes.
 const MAX_TABLE: u32 = 4_096;
 
 /// The name of a literal by its index, and the bytes after it.
 fn name_in<'a>(
     alloc: Global,
-    table: &Table,
+    table: &DynamicTable,
     index: u32,
     rest: &'a [u8],
 ) -> Result<(Bytes, &'a [u8]), Offence>
@@ -32,11 +32,11 @@ fn name_in<'a>(
     }
 }
 
-/// A literal with an index of so many bits, and the bytes after it.
+/// A literal whose index has a prefix of so many bits, and the bytes after it.
 #[tactic(auto, unfolding(crate::specs::Reading::literal_at))]
 fn literal_in<'a>(
     alloc: Global,
-    table: &Table,
+    table: &DynamicTable,
     bits: u8,
     bytes: &'a [u8],
 ) -> Result<(Header, &'a [u8]), Offence>
@@ -54,7 +54,7 @@ fn literal_in<'a>(
 #[tactic(auto, unfolding(crate::specs::Reading::indexed_at))]
 fn indexed_in<'a>(
     alloc: Global,
-    table: &Table,
+    table: &DynamicTable,
     bytes: &'a [u8],
 ) -> Result<(Header, &'a [u8]), Offence>
     ensures { Gives (λ x. given (Some x.0) table.now x.1.now) result (indexed_at table.now bytes.now) }
@@ -66,9 +66,13 @@ fn indexed_in<'a>(
     }
 }
 
-/// A new maximum of the table, and the bytes after it.
+/// A size update, and the bytes after it.
 #[tactic(auto, unfolding(crate::specs::Reading::update_at))]
-fn update_in<'a>(table: &mut Table, may_update: bool, bytes: &'a [u8]) -> Result<&'a [u8], Offence>
+fn update_in<'a>(
+    table: &mut DynamicTable,
+    may_update: bool,
+    bytes: &'a [u8],
+) -> Result<&'a [u8], Offence>
     ensures { Gives (λ rest. given None table.new rest.now) result (update_at table.old may_update bytes.now) }
 {
     let (max, rest) = int_in(5, bytes)?;
@@ -83,7 +87,7 @@ fn update_in<'a>(table: &mut Table, may_update: bool, bytes: &'a [u8]) -> Result
 #[tactic(auto, unfolding(crate::specs::Reading::representation_at))]
 pub(crate) fn representation_in<'a>(
     alloc: Global,
-    table: &mut Table,
+    table: &mut DynamicTable,
     may_update: bool,
     bytes: &'a [u8],
 ) -> Result<(Option<Header>, &'a [u8]), Offence>

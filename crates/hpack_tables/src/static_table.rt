@@ -102,28 +102,28 @@ fn is_same(entry: &(&str, &str), header: &Header) -> bool
     is_named(entry, header.name.as_slice()) && entry.1.as_bytes() == header.value.as_slice()
 }
 
-/// Where the first of some entries stands that has this name.
+/// The place of the first of some entries that has this name.
 fn first_named(list: &[(&str, &str)], name: &[u8]) -> Option<usize>
     ensures { result ≡ position (λ entry. has_name name.now (entry_of entry.0.now entry.1.now)) list.now }
 {
     list.iter().position(|entry| is_named(entry, name))
 }
 
-/// Where the first of some entries stands that is this header.
+/// The place of the first of some entries that is this header.
 fn first_same(list: &[(&str, &str)], header: &Header) -> Option<usize>
     ensures { result ≡ position (λ entry. is_header header.now (entry_of entry.0.now entry.1.now)) list.now }
 {
     list.iter().position(|entry| is_same(entry, header))
 }
 
-/// Where the first entry that is this header stands.
+/// The place of the first entry that is this header.
 pub(crate) fn place_of(header: &Header) -> Option<usize>
     ensures { result ≡ position (is_header header.now) static_entries }
 {
     first_same(entries(), header)
 }
 
-/// Where the first entry with this name stands.
+/// The place of the first entry with this name.
 pub(crate) fn place_of_name(name: &[u8]) -> Option<usize>
     ensures { result ≡ position (has_name name.now) static_entries }
 {

@@ -10,7 +10,7 @@ use crate::offence::Offence;
 use proto_wire::{Bytes, OutOfMemory};
 use std::alloc::Global;
 
-/// Whether the first bit of the first byte is set.
+/// Whether a string literal is coded, by the first bit of its first byte.
 fn is_coded(bytes: &[u8]) -> bool
     ensures { result ≡ is_coded_string bytes.now }
 {
@@ -40,7 +40,7 @@ pub(crate) fn string_in(alloc: Global, bytes: &[u8]) -> Result<(Bytes, &[u8]), O
     }
 }
 
-/// Appends a string literal, as it is.
+/// Appends a string literal that isn't coded.
 #[tactic(auto, unfolding(crate::specs::Encoding::string_spelled))]
 pub(crate) fn push_string(out: &mut Vec<u8>, text: &[u8]) -> Result<(), OutOfMemory>
     ensures { OnOk result (out.new.items ≡ out.old.items ++ string_spelled text.now) }

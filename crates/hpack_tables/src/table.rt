@@ -1,114 +1,72 @@
-//! `Table`.
+//! `Table` and `decode_block`.
 
-ghost use Rattle.std.specs.Prelude.{◌≡◌, ◌≤◌, [], ◌∷◌, ◌++◌, OnOk, MatchOption};
-ghost use Rattle.std.specs.Option.{option_map};
-ghost use Rattle.hpack_tables.specs.Block.{max_table};
-ghost use Rattle.hpack_tables.specs.Table.{new_table, with_entry, with_max, header_at, entry_of, fitting};
+ghost use Rattle.std.specs.Prelude.{◌≡◌, ◌≤◌, ◌⊎◌, List, None, Some, Ok, Err, IfOk, IfErr, IfSome};
+ghost use Rattle.std.specs.Result.{result_err};
+ghost use Rattle.hpack_tables.specs.declared.fault.HpackFault.TheVariants.{OutOfMemory as NoMemory};
+ghost use Rattle.hpack_tables.specs.declared.header.Header.{Header};
+ghost use Rattle.hpack_tables.specs.Block.{IsBlock, max_list, max_table};
+ghost use Rattle.hpack_tables.specs.Reading.{BlockGives, block_at};
+ghost use Rattle.hpack_tables.specs.Refusal.{IsRefusal};
+ghost use Rattle.hpack_tables.specs.Table.{HeaderTable, list_size, new_table, unrefused};
 
-use crate::header::{Header, OVERHEAD, copy_of};
-use crate::static_table::entry_at;
-use proto_wire::OutOfMemory;
+use crate::decode::read_block;
+use crate::dynamic_table::DynamicTable;
+use crate::fault::HpackFault;
+use crate::header::Headers;
 use std::alloc::Global;
-use std::collections::VecDeque;
 use std::marker::Model;
 
-/// How many entries the static table has.
-const STATIC_LEN: usize = 61;
-
-/// The dynamic table of a connection in one direction: its entries, the newest first, and how large they may be together.
+/// What the blocks of a connection in one direction are decoded with: the dynamic table, and the refusal of a block, if
+/// one was refused.
 #[derive(Debug, Drop)]
 pub struct Table {
-    alloc: Global,
-    entries: VecDeque<Header>,
-    size: usize,
-    max: usize,
+    dynamic: DynamicTable,
+    refusal: Option<HpackFault>,
 }
 
 impl Model for Table {
-    ghost use Rattle.std.specs.Prelude.{◌≡◌, ◌≤◌};
-    ghost use Rattle.hpack_tables.specs.Block.{max_table};
-    ghost use Rattle.hpack_tables.specs.Table.{HeaderTable, list_size};
+    ghost use Rattle.hpack_tables.specs.Table.{TableState};
 
-    ghost Value = { HeaderTable };
+    ghost Value = { TableState };
 
-    ghost view = { λ t. record { entries = t.entries.items; max = t.max } };
-
-    ghost invariant = { λ t. (t.size ≡ list_size t.entries.items) × (t.size ≤ t.max) × (t.max ≤ max_table) };
+    ghost view = { λ t. record { dynamic = t.dynamic; refusal = t.refusal } };
 }
 
 impl Table {
-    /// A table without entries, of at most 4,096. It takes no memory.
+    /// A table without entries, of at most `max` bytes. It takes no memory.
     pub fn new(alloc: Global, max: u32) -> Table
         requires { max ≤ max_table }
-        ensures { result ≡ new_table max }
+        ensures { result ≡ unrefused (new_table max) }
     {
         Table {
-            alloc,
-            entries: VecDeque::new(alloc),
-            size: 0,
-            max: max as usize,
-        }
-    }
-
-    /// The name and the value of an index: of the static table, or behind it of this one, the newest first.
-    pub(crate) fn header_at(&self, index: usize) -> Option<(&[u8], &[u8])>
-        ensures { option_map (λ entry. entry_of entry.0.now entry.1.now) result ≡ header_at self.now index }
-    {
-        if index == 0 {
-            return None;
-        }
-        if index <= STATIC_LEN {
-            return entry_at(index - 1);
-        }
-        match self.entries.get(index - STATIC_LEN - 1) {
-            Some(header) => Some((header.name.as_slice(), header.value.as_slice())),
-            None => None,
-        }
-    }
-
-    /// Adds a copy of a header, and evicts the oldest entries until it fits; one that is larger than the table empties it.
-    pub(crate) fn add(&mut self, header: &Header) -> Result<(), OutOfMemory>
-        ensures { OnOk result (self.new ≡ with_entry self.old header.now) }
-    {
-        match header.size_within(self.max) {
-            None => {
-                self.evict(0);
-                Ok(())
-            }
-            Some(size) => {
-                let copy = copy_of(self.alloc, header.name.as_slice(), header.value.as_slice())?;
-                self.evict(self.max - size);
-                self.entries.push_front(copy)?;
-                self.size += size;
-                Ok(())
-            }
-        }
-    }
-
-    /// Sets the maximum, and evicts the oldest entries until the others fit. It takes no memory.
-    pub(crate) fn resize(&mut self, max: u32)
-        requires { max ≤ max_table }
-        ensures { self.new ≡ with_max self.old max }
-    {
-        self.evict(max as usize);
-        self.max = max as usize;
-    }
-
-    // Evicts the oldest entries until the others are together no larger than this.
-    fn evict(&mut self, most: usize)
-        ensures { self.new ≡ record self.old { entries = fitting most self.old.entries } }
-    {
-        while self.size > most {
-            if let Some(header) = take_oldest(&mut self.entries) {
-                self.size -= header.name.len() + header.value.len() + OVERHEAD;
-            }
+            dynamic: DynamicTable::new(alloc, max),
+            refusal: None,
         }
     }
 }
 
-// Takes out the oldest entry, if there is one.
-fn take_oldest(entries: &mut VecDeque<Header>) -> Option<Header>
-    ensures { MatchOption result (entries.old.items ≡ []) (λ last. entries.old.items ≡ entries.new.items ++ last ∷ []) }
+/// The headers of a block, in order, by the table, which becomes that of the next block. The first representation that is
+/// malformed refuses the block, and a table that refused one answers that refusal for good: what the peer's encoder has in
+/// its table is not known then (RFC 7541, section 2.2).
+pub fn decode_block(alloc: Global, table: &mut Table, block: &[u8]) -> Result<Headers, HpackFault>
+    // what the grammar and the table relate to the block
+    ensures found { IfOk result (λ headers. IsBlock table.old.dynamic block.now headers table.new.dynamic × (list_size headers ≤ max_list)) }
+    ensures only { (headers : List Header) (t : HeaderTable) → table.old.refusal ≡ None → IsBlock table.old.dynamic block.now headers t → list_size headers ≤ max_list → (result ≡ Err NoMemory) ⊎ ((result ≡ Ok headers) × (table.new.dynamic ≡ t)) }
+    ensures refused { table.old.refusal ≡ None → IfErr result (λ e. (e ≡ NoMemory) ⊎ IsRefusal table.old.dynamic block.now e) }
+
+    // which of the faults it is
+    ensures exact { table.old.refusal ≡ None → BlockGives (λ headers. (headers, table.new.dynamic)) result (block_at table.old.dynamic block.now) }
+
+    // a refusal is kept
+    ensures kept { table.new.refusal ≡ result_err result }
+    ensures latched { IfSome table.old.refusal (λ e. (result ≡ Err e) × (table.new ≡ table.old)) }
 {
-    entries.pop_back()
+    if let Some(fault) = table.refusal {
+        return Err(fault);
+    }
+    let read = read_block(alloc, &mut table.dynamic, block);
+    if let Err(fault) = &read {
+        table.refusal = Some(*fault);
+    }
+    read
 }

@@ -1,7 +1,7 @@
 use Rattle.std.proofs.Common.{arith}
 use Rattle.hpack_tables.specs.Huffman.{bits_of}
 use Rattle.hpack_tables.specs.HuffmanSpelling.{bits_in}
-use Rattle.hpack_tables.proofs.HuffmanEncode.{code_is_set, next_text, all_bytes, coded}
+use Rattle.hpack_tables.proofs.HuffmanEncode.{code_is_set, next_text, coded}
 use Rattle.hpack_tables.proofs.huffman.huffman_encode.Goals as goal
 
 pub push_code-requires-clause-code : goal.push_code-requires-clause-code
@@ -25,4 +25,4 @@ loop-byte-preserved c =
 pub returns : goal.returns
 returns c =
     rw c.from_vec.ensures
-    (coded c.args.bytes.now c.loop-byte.out.items c.loop-byte.rest c.loop-byte.byte-index c.push_rest.new.out.items (all_bytes c.args.bytes.now (λ i. let fits = c.type_inv.bytes i in omega arith)) c.loop-byte-test.false c.loop-byte.invariant.bits c.in_ok-push_rest.ensures)
+    (coded c.args.bytes.now c.loop-byte.out.items c.loop-byte.rest c.loop-byte.byte-index c.push_rest.new.out.items (λ i. omega (arith, c.type_inv.bytes i)) c.loop-byte-test.false c.loop-byte.invariant.bits c.in_ok-push_rest.ensures)

@@ -1,10 +1,13 @@
-use Rattle.std.proofs.Common.{◌≡◌, drop}
+use Rattle.std.proofs.Common.{◌≡◌, ◌<◌, [], ◌++◌, length}
 use Rattle.hpack_tables.specs.Huffman.{bits_of, text_of, text_behind}
-use Rattle.hpack_tables.specs.HuffmanWalk.{IsWalk, later, taken}
+use Rattle.hpack_tables.specs.HuffmanWalk.{bits_left, later}
 use Rattle.hpack_tables.proofs.huffman.text_in.Given as goal
 
-abbrev pub invariant-loop-byte : goal.invariant-loop-byte
-invariant-loop-byte l = record {
-  walk : IsWalk l.walk;
-  text : later l.text.items (text_behind (taken l.walk) (bits_of (drop l.byte-index l.bytes))) ≡ text_of l.bytes;
+abbrev pub invariant-bytes : goal.invariant-bytes
+invariant-bytes l = record {
+  few : l.window.len < 30;
+  text : later l.text.items (text_behind [] (bits_left l.window ++ bits_of l.rest)) ≡ text_of l.bytes;
 }
+
+abbrev pub decreases-bytes : goal.decreases-bytes
+decreases-bytes l = length l.rest

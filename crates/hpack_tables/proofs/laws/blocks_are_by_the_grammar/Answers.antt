@@ -5,4 +5,4 @@ pub returns-clause-read : goal.returns-clause-read
 returns-clause-read c = block_takes
 
 pub returns-clause-spelled : goal.returns-clause-spelled
-returns-clause-spelled c t t' bytes headers fits = block_again t t' bytes headers
+returns-clause-spelled c = block_again
