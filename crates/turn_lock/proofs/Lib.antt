@@ -1,2 +1,6 @@
 pub mod Counting
 pub mod Opening
+pub mod ViewLists
+pub mod Owners
+pub mod LockSteps
+pub mod SeatFacts

@@ -2,3 +2,8 @@ pub mod Told
 pub mod Noted
 pub mod Counted
 pub mod Seated
+pub mod Views
+pub mod LockRule
+pub mod Kinds
+pub mod Seats
+pub mod Lending
