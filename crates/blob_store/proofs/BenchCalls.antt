@@ -75,7 +75,7 @@ may_note s b owner event bench room served numbered =
     }
 
 -- an event that is asked is neither Open nor Close
-asked_comes : (b : Benched) (event : Event) → MayAsk (view_of b) event → event ≢ events.Open
+pub asked_comes : (b : Benched) (event : Event) → MayAsk (view_of b) event → event ≢ events.Open
 asked_comes b events.Open may e = may
 asked_comes b (events.Put d edges) may e = may
 asked_comes b (events.Find ds) may e = absurd cc
@@ -88,7 +88,7 @@ asked_comes b events.Pass may e = may
 asked_comes b events.Usage may e = absurd cc
 asked_comes b events.Close may e = may
 
-asked_goes : (b : Benched) (event : Event) → MayAsk (view_of b) event → event ≢ events.Close
+pub asked_goes : (b : Benched) (event : Event) → MayAsk (view_of b) event → event ≢ events.Close
 asked_goes b events.Open may e = may
 asked_goes b (events.Put d edges) may e = may
 asked_goes b (events.Find ds) may e = absurd cc
@@ -116,7 +116,7 @@ asked_quiet b events.Usage may = refl
 asked_quiet b events.Close may = refl
 
 -- the reply to it has its form
-asked_answer : (s : State) (b : Benched) (owner : ℕ) (event : Event) → IsBench s b → (seat_of b).entered ≡ true → (seat_of b).owner ≡ Some owner → MayAsk (view_of b) event → IsAnswer s event (step s owner event).0
+pub asked_answer : (s : State) (b : Benched) (owner : ℕ) (event : Event) → IsBench s b → (seat_of b).entered ≡ true → (seat_of b).owner ≡ Some owner → MayAsk (view_of b) event → IsAnswer s event (step s owner event).0
 asked_answer s b owner events.Open bench entered is_owner may = tt
 asked_answer s b owner (events.Put d edges) bench entered is_owner may = tt
 asked_answer s b owner (events.Find ds) bench entered is_owner may = (missing s.rows ds, find_replies s owner ds (chosen_is_open s b owner bench entered is_owner))
@@ -133,7 +133,7 @@ asked_answer s b owner events.Usage bench entered is_owner may =
 asked_answer s b owner events.Close bench entered is_owner may = tt
 
 -- and it isn't refused
-asked_served : (s : State) (b : Benched) (owner : ℕ) (event : Event) → IsBench s b → (seat_of b).entered ≡ true → (seat_of b).owner ≡ Some owner → MayAsk (view_of b) event → (step s owner event).0 ≢ replies.Refused
+pub asked_served : (s : State) (b : Benched) (owner : ℕ) (event : Event) → IsBench s b → (seat_of b).entered ≡ true → (seat_of b).owner ≡ Some owner → MayAsk (view_of b) event → (step s owner event).0 ≢ replies.Refused
 asked_served s b owner events.Open bench entered is_owner may = absurd may
 asked_served s b owner (events.Put d edges) bench entered is_owner may = absurd may
 asked_served s b owner (events.Find ds) bench entered is_owner may = not_refused s owner (events.Find ds) tt (chosen_is_open s b owner bench entered is_owner)

@@ -10,7 +10,8 @@ use Rattle.store_core.specs.declared.event.Reply.TheVariants as replies
 use Rattle.store_core.specs.Step.{step, served}
 use Rattle.store_core.specs.History.{Entry, state, Legal}
 use Rattle.blob_store.specs.declared.seat.Seat.{Seat}
-use Rattle.blob_store.specs.View.{Aside, IsSound, Extends, Turns, Makes, Waits, Enters, StaysOut, Leaves}
+use Rattle.turn_lock.specs.Views.{Extends}
+use Rattle.blob_store.specs.View.{Aside, IsSound, Turns, Makes, Waits, Enters, StaysOut, Leaves}
 use Rattle.blob_store.specs.Benched.{Benched, IsAtStep, store_of, seat_of, view_of, unseated, seated, unseated_now}
 use Rattle.blob_store.proofs.ViewLaws.{last_step}
 

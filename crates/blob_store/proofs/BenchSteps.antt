@@ -20,6 +20,7 @@ use Rattle.store_core.specs.Pass.{guarded, pass}
 use Rattle.store_core.specs.Standing.{standing}
 use Rattle.store_core.specs.Step.{is_open, is_opening, with_room, with_row, put_over, put, missing, touched, is_here, own_lease, confirmed, released, closed, served, step}
 use Rattle.store_core.specs.History.{Entry, state, IsNumbered, IsLegalAt, Legal, own, own_leases, leases_of}
+use Rattle.turn_lock.proofs.Owners.{step_next}
 use Rattle.store_core.proofs.Elements.{every_weaker, every_contains, every_has}
 use Rattle.store_core.proofs.Entries.{leases_by_own, served_by}
 use Rattle.store_core.proofs.Histories.{state_after}
@@ -243,38 +244,13 @@ unfolding step
 step_owners s owner event comes goes =
     chosen (KeepsOwners s) (is_opening event || is_open s owner) (served s owner event) (replies.Refused, s) (λ _. served_owners s owner event comes goes) (λ _. (refl, refl))
 
--- the number of the next owner never falls
-closed_next : (s : State) (owner : ℕ) → s.next_owner ≤ (closed s owner).1.next_owner
-closed_next s owner =
-    chosen (λ t. s.next_owner ≤ t.next_owner) (list_any (is_of_owner owner) s.leases) (replies.Refused, s) (replies.Closed, record s { owners = filter (λ o. not (nat_eq o owner)) s.owners })
-    (λ _. omega arith) (λ _. omega arith)
-
-served_next : (s : State) (owner : ℕ) (event : Event) → s.next_owner ≤ (served s owner event).1.next_owner
-unfolding served
-served_next s owner events.Open = omega arith
-served_next s owner (events.Put d edges) = omega (arith, (put_owners s d edges).1)
-served_next s owner (events.Find ds) = omega arith
-served_next s owner (events.Read d) = omega (arith, (served_owners s owner (events.Read d) (λ e. absurd cc) (λ e. absurd cc)).1)
-served_next s owner (events.Lease root kind) = omega arith
-served_next s owner (events.Confirm id files) = omega (arith, (confirmed_owners s files (own_lease s owner id)).1)
-served_next s owner (events.Release id) = omega (arith, (released_owners s id (own_lease s owner id)).1)
-served_next s owner (events.Damage d) = omega arith
-served_next s owner events.Pass = omega arith
-served_next s owner events.Usage = omega arith
-served_next s owner events.Close = closed_next s owner
-
-step_next : (s : State) (owner : ℕ) (event : Event) → s.next_owner ≤ (step s owner event).1.next_owner
-unfolding step
-step_next s owner event =
-    chosen (λ t. s.next_owner ≤ t.next_owner) (is_opening event || is_open s owner) (served s owner event) (replies.Refused, s) (λ _. served_next s owner event) (λ _. omega arith)
-
 pub next_after : (s : State) (entries : List Entry) → s.next_owner ≤ (state s entries).next_owner
 unfolding state
 next_after s [] = omega arith
 next_after s (entry ∷ entries) = omega (arith, step_next s entry.owner entry.event, next_after (step s entry.owner entry.event).1 entries)
 
 -- each entry gives out at most one number of each kind
-numbers_after : (s : State) (entries : List Entry) → ((state s entries).next_owner ≤ s.next_owner + length entries) × ((state s entries).next_lease ≤ s.next_lease + length entries)
+pub numbers_after : (s : State) (entries : List Entry) → ((state s entries).next_owner ≤ s.next_owner + length entries) × ((state s entries).next_lease ≤ s.next_lease + length entries)
 unfolding state
 numbers_after s [] = (omega arith, omega arith)
 numbers_after s (entry ∷ entries) =
@@ -601,7 +577,7 @@ owner_enters s s' b b' reply bench room e is =
         last = (b.seen, ap (λ (xs : List Entry). b.seen ++ xs) (sym (mine ∙ own_is)));
         count = more.count;
         grant = refl;
-        aside = ap (λ (xs : List Seat). record { place = b.chosen; seats = xs }) (set-set b.seats b.chosen (seated n) unseated);
+        aside = ap (λ (xs : List Seat). record { lock = None; place = b.chosen; seats = xs }) (set-set b.seats b.chosen (seated n) unseated);
         left = omega (arith, more.count);
         used = omega (arith, more.count);
       },
@@ -715,7 +691,7 @@ owner_leaves s s' b b' owner bench entered is_owner room e is =
         last = (b.seen, refl);
         count = more.count;
         grant = refl;
-        aside = ap (λ (xs : List Seat). record { place = b.chosen; seats = xs }) (set-set b.seats b.chosen (unseated_now owner) unseated);
+        aside = ap (λ (xs : List Seat). record { lock = None; place = b.chosen; seats = xs }) (set-set b.seats b.chosen (unseated_now owner) unseated);
         left = omega (arith, more.count);
         used = omega (arith, more.count);
       },

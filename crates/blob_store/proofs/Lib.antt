@@ -6,5 +6,7 @@ pub mod KeptRows
 pub mod MemoryLemmas
 pub mod TakingLemmas
 pub mod ViewLaws
-pub mod VisitBenchLaws
-pub mod VisitLaws
+pub mod OpenLaws
+pub mod DoorSteps
+pub mod GoingOn
+pub mod RingLaws

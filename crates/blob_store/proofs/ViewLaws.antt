@@ -16,7 +16,8 @@ use Rattle.store_core.proofs.Elements.{every_has, every_contains}
 use Rattle.store_core.proofs.Entries.{leases_by_own}
 use Rattle.store_core.proofs.Kept.{follows_step}
 use Rattle.store_core.proofs.Histories.{state_after, legal_after}
-use Rattle.blob_store.specs.View.{View, IsSound, IsOwn, Extends, by, Turns, Makes, MayCall, state_of, leases_by, own_now}
+use Rattle.turn_lock.specs.Views.{Extends}
+use Rattle.blob_store.specs.View.{View, IsSound, IsOwn, by, Turns, Makes, MayCall, state_of, leases_by, own_now}
 
 -- ---- one call after the other
 

@@ -35,6 +35,11 @@ abbrev pub put_gives_up : {E : Type 0} → Result Reply E → ℕ
 put_gives_up (Ok reply) = replied_gives_up reply
 put_gives_up (Err e) = 1
 
+-- the same, where something else is answered beside the reply
+abbrev pub gives_up_in : {A E : Type 0} → Result (Reply × A) E → ℕ
+gives_up_in (Ok answer) = replied_gives_up answer.0
+gives_up_in (Err e) = 1
+
 -- how many bodies a put gives up beside those of the rows that go
 unfoldable pub gives_up_beside : Reply → ℕ
 gives_up_beside (replies.Stored removed used) = 0

@@ -4,9 +4,10 @@ pub mod Memory
 pub mod Taking
 pub mod View
 pub mod Calls
-pub mod Visits
 pub mod Applied
 pub mod Kept
 pub mod Noted
 pub mod Benched
 pub mod Asked
+pub mod Doors
+pub mod Rings

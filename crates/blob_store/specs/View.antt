@@ -1,6 +1,7 @@
 -- What a seat has seen of the store, and what its calls add.
 use Rattle.std.specs.Prelude.{◌≡◌, ◌+◌, ◌≤◌, ◌<◌, ℕ, Bool, true, false, List, [], ◌∷◌, ◌++◌, length, Option, Some, None, IfSome}
 use Rattle.std.specs.List.{list_any}
+use Rattle.atomic_table.specs.Seated.{TableId}
 use Rattle.store_core.specs.State.{State, Valid, has_id}
 use Rattle.store_core.specs.declared.state.Lease.{Lease}
 use Rattle.store_core.specs.History.{Entry, state, Legal, own, own_leases}
@@ -8,11 +9,13 @@ use Rattle.store_core.specs.declared.event.Event.{Event}
 use Rattle.store_core.specs.declared.event.Event.TheVariants as events
 use Rattle.store_core.specs.declared.event.Reply.{Reply}
 use Rattle.store_core.specs.declared.event.Reply.TheVariants as replies
+use Rattle.turn_lock.specs.Views.{Extends}
 use Rattle.blob_store.specs.declared.seat.Seat.{Seat}
 
--- What a door of several seats keeps beside the one whose door it is: the place of that one, and the seats, where at its
--- own place there stands one without an owner.
+-- Which lock a door's seat is at, if it is at one, and what a door of several seats keeps beside the one whose door it is:
+-- the place of that one, and the seats, where at its own place there stands one without an owner.
 pub record Aside : Type 0 where
+  pub lock : Option TableId
   pub place : ℕ
   pub seats : List Seat
 
@@ -48,10 +51,6 @@ pub record IsSeated (v : View) : Type 0 where
   pub number : ℕ
   pub owner : v.owner ≡ Some number
   pub is_own : own number v.seen ≡ v.mine
-
--- a list begins with another
-abbrev pub Extends : List Entry → List Entry → Type 0
-Extends old new = (more : List Entry) × (new ≡ old ++ more)
 
 -- the entries are those of an owner, with these events and replies in turn
 abbrev pub by : ℕ → List (Event × Reply) → List Entry

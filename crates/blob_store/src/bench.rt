@@ -296,7 +296,7 @@ impl<K: Shelf> Door<K> for Bench<K> {
 }
 
 // The event of a put of a blob.
-fn put_event<K: Shelf>(alloc: Global, blob: &Checked<K>) -> Result<Event, OutOfMemory>
+pub(crate) fn put_event<K: Shelf>(alloc: Global, blob: &Checked<K>) -> Result<Event, OutOfMemory>
     ensures { IfOk result (λ event. event ≡ events.Put blob.now.digest blob.now.edges) }
 {
     let edges = match blob.edges() {
@@ -310,7 +310,7 @@ fn put_event<K: Shelf>(alloc: Global, blob: &Checked<K>) -> Result<Event, OutOfM
 }
 
 // What a put answers by its reply.
-fn put_answer(reply: &Reply) -> PutReply
+pub(crate) fn put_answer(reply: &Reply) -> PutReply
     requires { IsPutReply reply.now }
     ensures { put_reply result ≡ reply.now }
 {

@@ -69,7 +69,7 @@ impl<K: Shelf> Checked<K> {
     }
 
     /// The body, its digest and its links. It takes no memory.
-    pub(crate) fn into_parts(self) -> (K::Body, Digest, Option<Edges>)
+    pub fn into_parts(self) -> (K::Body, Digest, Option<Edges>)
         ensures parts { self ≡ record { digest = result.1; edges = result.2; told = K.kept result.0 } }
         ensures told { IfSome (K.kept result.0) (λ bytes. (result.1 ≡ digest_of bytes) × (result.2 ≡ links bytes)) }
     {

@@ -8,7 +8,8 @@ ghost use Rattle.store_core.specs.declared.event.Reply.TheVariants as replies;
 ghost use Rattle.store_core.specs.Step.{step};
 ghost use Rattle.store_core.specs.History.{Entry, state, own, leases_of};
 ghost use Rattle.turn_lock.specs.Noted.{entry};
-ghost use Rattle.blob_store.specs.View.{View, IsSound, IsOwn, Extends, Turns, Makes, Waits, Enters, StaysOut, Leaves, state_of, own_now};
+ghost use Rattle.turn_lock.specs.Views.{Extends};
+ghost use Rattle.blob_store.specs.View.{View, IsSound, IsOwn, Turns, Makes, Waits, Enters, StaysOut, Leaves, state_of, own_now};
 ghost use Rattle.blob_store.specs.Benched.{Benched, IsAtStep, store_of, seat_of, view_of, seated, unseated_now};
 
 /// Calls one after the other make their entries in that order, in so many turns together.

@@ -3,12 +3,15 @@
 //! everything above it.
 #![tactic(auto)]
 
+mod bell;
 mod bench;
 mod bodies;
 mod checked;
 mod door;
 mod filling;
+mod gate;
 pub mod laws;
+mod lock_door;
 mod memory;
 mod noting;
 mod reading;
@@ -16,22 +19,17 @@ mod seat;
 mod shelf;
 mod store;
 mod taking;
+mod turns;
 
+pub use bell::{Bell, BellEar, BellGate};
 pub use bench::Bench;
 pub use checked::Checked;
 pub use door::{Door, Passed, PutReply};
 pub use filling::Filling;
+pub use gate::{Ear, Gate, Ring};
+pub use lock_door::LockDoor;
 pub use memory::{MemBody, MemDraft, MemReader, MemShelf};
 pub use reading::{Reading, ReadingEnd};
 pub use seat::Seat;
 pub use shelf::{Shelf, ShelfEnd};
 pub use store::Store;
-
-#[cfg(test)]
-mod bench_tests;
-#[cfg(test)]
-mod generic_tests;
-#[cfg(test)]
-mod store_tests;
-#[cfg(test)]
-mod tests;

@@ -13,6 +13,7 @@ ghost use Rattle.indexed_core.specs.Removal.{removed, adds_row};
 ghost use Rattle.blob_store.specs.Applied.{HasBody, gives_up, put_gives_up, passed_gives_up, gives_up_beside};
 ghost use Rattle.blob_store.specs.Calls.{Begins};
 ghost use Rattle.blob_store.specs.Kept.{told_of};
+ghost use Rattle.blob_store.specs.Rings.{ring_mark};
 ghost use Rattle.blob_store.specs.Shelves.{Stays, HasShelfCause, discarding};
 ghost use Rattle.blob_store.specs.declared.shelf.ShelfEnd.TheVariants.{OutOfMemory as NoMemory};
 
@@ -66,6 +67,14 @@ impl<K: Shelf> Store<K> {
         ensures { usage self.now ≡ (replies.Used result, self.now) }
     {
         self.core.usage()
+    }
+
+    /// The ring mark, in bytes: halfway from the low mark to the high mark. It takes no memory.
+    pub(crate) fn ring_mark(&self) -> u64
+        ensures { result ≡ ring_mark self.now }
+    {
+        let usage = self.usage();
+        usage.low + usage.high.saturating_sub(usage.low) / 2
     }
 
     /// The number that the next owner gets. It takes no memory.
@@ -183,11 +192,7 @@ impl<K: Shelf> Store<K> {
     }
 
     /// A reading of a blob that is there, or None. It is no event.
-    pub(crate) fn reading(
-        &self,
-        shelf: &mut K,
-        digest: &Digest,
-    ) -> Result<Option<Reading<K>>, ShelfEnd>
+    pub fn reading(&self, shelf: &mut K, digest: &Digest) -> Result<Option<Reading<K>>, ShelfEnd>
         ensures there { IfOk result (λ o. is_some o ≡ is_here self.now.rows digest.now) }
         ensures begun { IfOk result (λ o. IfSome o (Begins digest.now)) }
         ensures stays { Stays (K.shelved shelf.old) (K.shelved shelf.new) }
