@@ -15,7 +15,8 @@ use Rattle.digest_types.specs.Digest as digests
 use Rattle.digest_types.specs.Digest.{IsDigest}
 use Rattle.digest_types.proofs.Written.{spelled-read}
 use Rattle.cas_messages.specs.declared.error.MessageError.{MessageError}
-use Rattle.cas_messages.specs.Fault.{◌>>=◌, wire_fault, digest_fault, inside, with_fault}
+use Rattle.proto_wire.specs.Steps.{◌>>=◌}
+use Rattle.cas_messages.specs.Fault.{wire_fault, digest_fault, inside, with_fault}
 use Rattle.cas_messages.specs.Table.{Kind, int32, int64, bool, text, bytes, digest, optional_digest, int32_list, text_list, bytes_list, digest_list, Of}
 use Rattle.cas_messages.specs.Meaning.{int32_of, text_from, digest_from, digest_by, optional_by, each, field_in, message_by, one_in, list_in}
 use Rattle.cas_messages.specs.Spelling.{packed_content, digest_spelled, field_spelled}

@@ -1,18 +1,11 @@
 -- Reading the elements of a list one after the other, as a loop does.
-use Rattle.std.proofs.Common.{◌≡◌, ℕ, ◌+◌, ◌<◌, ◌≤◌, List, [], ◌∷◌, ◌++◌, length, map, get_or, drop, Result, Ok, Err, refl, sym, ap, ◌∙◌, append_assoc, add-one, drop-cons}
+use Rattle.std.proofs.Common.{◌≡◌, ℕ, ◌+◌, ◌<◌, ◌≤◌, List, [], ◌∷◌, ◌++◌, length, map, get_or, drop, Result, Ok, Err, refl, sym, ap, ◌∙◌, add-one, drop-cons}
 use Rattle.std.proofs.lemmas.List.{append-nil, drop_all, get_or-map, length-map}
 use Rattle.cas_messages.specs.declared.error.MessageError.{MessageError}
-use Rattle.cas_messages.specs.declared.error.MessageError.TheVariants as errors
-use Rattle.cas_messages.specs.Fault.{◌>>=◌, Fails}
+use Rattle.proto_wire.specs.Steps.{with_front}
+use Rattle.proto_wire.proofs.Steps.{fails_along, regroup}
+use Rattle.cas_messages.specs.Fault.{wants_memory, Fails}
 use Rattle.cas_messages.specs.Meaning.{each}
-
--- what was read before, and what is still read
-abbrev pub with_front : {A : Type 0} → List A → Result (List A) MessageError → Result (List A) MessageError
-with_front front read = read >>= λ xs. Ok (front ++ xs)
-
-regroup : {A : Type 0} (front : List A) (x : A) (others : Result (List A) MessageError) → with_front front (others >>= λ xs. Ok (x ∷ xs)) ≡ with_front (front ++ x ∷ []) others
-regroup front x (Err e) = refl
-regroup front x (Ok xs) = ap Ok (sym (append_assoc front (x ∷ []) xs))
 
 -- the contents from the i-th on, of which the i-th is that of xs
 opens : {X : Type 0} (f : X → List ℕ) (xs : List X) (i : ℕ) (d : X) → i < length xs → drop i (map f xs) ≡ f (get_or xs i d) ∷ drop (i + 1) (map f xs)
@@ -40,10 +33,7 @@ stops read f xs i d e front total lt h so_far =
 -- an element was refused, and that is the answer
 pub ends : {A X : Type 0} (read : ℕ → List ℕ → Result A MessageError) (f : X → List ℕ) (xs : List X) (i : ℕ) (d : X) (e : MessageError) (front : List A) (total : Result (List A) MessageError) → i < length xs
     → Fails e (read i (f (get_or xs i d))) → with_front front (each read i (drop i (map f xs))) ≡ total → Fails e total
-ends read f xs i d errors.OutOfMemory front total lt h so_far = tt
-ends read f xs i d (errors.Wire field e) front total lt h so_far = stops read f xs i d (errors.Wire field e) front total lt h so_far
-ends read f xs i d (errors.NotUtf8 field) front total lt h so_far = stops read f xs i d (errors.NotUtf8 field) front total lt h so_far
-ends read f xs i d (errors.BadDigest field index) front total lt h so_far = stops read f xs i d (errors.BadDigest field index) front total lt h so_far
+ends read f xs i d e front total lt h so_far = fails_along wants_memory e (read i (f (get_or xs i d))) total (λ fault. stops read f xs i d e front total lt fault so_far) h
 
 -- all elements were read
 pub is_done : {A X : Type 0} (read : ℕ → List ℕ → Result A MessageError) (f : X → List ℕ) (xs : List X) (i : ℕ) (front : List A) (total : Result (List A) MessageError) → length xs ≤ i

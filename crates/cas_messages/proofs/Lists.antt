@@ -6,7 +6,7 @@ use Rattle.std.proofs.lemmas.List.{append-nil}
 use Rattle.std.proofs.lemmas.List.Elements.{filter_map-append}
 use Rattle.proto_wire.specs.declared.fault.WireError.{WireError}
 use Rattle.proto_wire.specs.Field.{WireField, int_of, bytes_of, ints, contents_of}
-use Rattle.proto_wire.specs.Reading.{◌>>=◌}
+use Rattle.proto_wire.specs.Steps.{◌>>=◌}
 use Rattle.proto_wire.specs.Packed.{numbers_of, packed_of}
 
 -- ---- what holds of each element

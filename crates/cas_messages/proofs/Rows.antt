@@ -8,7 +8,7 @@ use Rattle.proto_wire.specs.Wire.{Wire}
 use Rattle.proto_wire.specs.Spelling.{int_field, bytes_field}
 use Rattle.proto_wire.proofs.WireLaws.{int_field-spelling, bytes_field-spelling, Wire-append, Wire-one}
 use Rattle.cas_messages.specs.declared.error.MessageError.{MessageError}
-use Rattle.cas_messages.specs.Fault.{◌>>=◌}
+use Rattle.proto_wire.specs.Steps.{◌>>=◌}
 use Rattle.cas_messages.specs.Spelling.{number_spelled, content_spelled}
 use Rattle.cas_messages.specs.Fits.{Short}
 use Rattle.cas_messages.proofs.Lists.{Below, Above, Only, Without, all_append, below_only, only_below, only_above, above_more, without_below, without_above}

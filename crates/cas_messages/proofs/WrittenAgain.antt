@@ -7,7 +7,8 @@ use Rattle.proto_wire.specs.declared.fault.WireError.{WireError}
 use Rattle.proto_wire.specs.Field.{WireField}
 use Rattle.proto_wire.specs.Spelling.{bytes_field}
 use Rattle.proto_wire.proofs.WireLaws.{wire_read}
-use Rattle.cas_messages.specs.Fault.{◌>>=◌, wire_fault, with_fault}
+use Rattle.proto_wire.specs.Steps.{◌>>=◌}
+use Rattle.cas_messages.specs.Fault.{wire_fault, with_fault}
 use Rattle.cas_messages.specs.Table.{Table, end, field, message, message_list, Value, is_table}
 use Rattle.cas_messages.specs.Meaning.{field_in, one_in, list_in, fields_in, message_in}
 use Rattle.cas_messages.specs.Spelling.{field_spelled, spelled}

@@ -1,5 +1,6 @@
--- The faults of messages: how reading goes on or stops, and what a refusal of the code says.
-use Rattle.std.specs.Prelude.{◌≡◌, ℕ, Result, Ok, Err}
+-- The faults of messages, and what a refusal of the code says.
+use Rattle.std.specs.Prelude.{ℕ, Bool, true, false, Result, Ok, Err}
+use Rattle.proto_wire.specs.Steps.{FailsBut, GivesBut}
 use Rattle.proto_wire.specs.declared.fault.WireError.{WireError}
 use Rattle.proto_wire.specs.declared.fault.WireError.TheVariants as wire
 use Rattle.digest_types.specs.declared.error.DigestError.{DigestError}
@@ -7,23 +8,18 @@ use Rattle.digest_types.specs.declared.error.DigestError.TheVariants as digests
 use Rattle.cas_messages.specs.declared.error.MessageError.{MessageError}
 use Rattle.cas_messages.specs.declared.error.MessageError.TheVariants as errors
 
--- the next step, where the one before gave a value
-infixl 10 ◌>>=◌
-abbrev pub ◌>>=◌ : {A B : Type 0} → Result A MessageError → (A → Result B MessageError) → Result B MessageError
-(Ok x) >>= f = f x
-(Err e) >>= f = Err e
+-- want of memory
+abbrev pub wants_memory : MessageError → Bool
+wants_memory errors.OutOfMemory = true
+wants_memory _ = false
 
--- what a refusal of the code says of what reading gives: want of memory says nothing
+-- what a refusal says of what reading gives: want of memory says nothing
 abbrev pub Fails : {Y : Type 0} → MessageError → Result Y MessageError → Type 0
-Fails errors.OutOfMemory read = Unit {0}
-Fails (errors.Wire field e) read = read ≡ Err (errors.Wire field e)
-Fails (errors.NotUtf8 field) read = read ≡ Err (errors.NotUtf8 field)
-Fails (errors.BadDigest field index) read = read ≡ Err (errors.BadDigest field index)
+Fails e read = FailsBut wants_memory e read
 
--- What a function of the code returned, seen by view, is what reading gives, unless memory ran out.
+-- what a function returned, seen by view, is what reading gives, unless memory ran out
 abbrev pub Gives : {X Y : Type 0} → (X → Y) → Result X MessageError → Result Y MessageError → Type 0
-Gives view (Ok x) read = read ≡ Ok (view x)
-Gives view (Err e) read = Fails e read
+Gives view result read = GivesBut wants_memory view result read
 
 -- bytes that aren't a sequence of fields, in the content of a field, or 0 for the message itself
 abbrev pub wire_fault : ℕ → WireError → MessageError

@@ -9,7 +9,8 @@ use Rattle.digest_types.specs.Name.{HashAndSize}
 use Rattle.digest_types.specs.Reading.{digest_in}
 use Rattle.cas_messages.specs.declared.error.MessageError.{MessageError}
 use Rattle.cas_messages.specs.declared.error.MessageError.TheVariants as errors
-use Rattle.cas_messages.specs.Fault.{◌>>=◌, wire_fault, digest_fault, inside, with_fault}
+use Rattle.proto_wire.specs.Steps.{◌>>=◌}
+use Rattle.cas_messages.specs.Fault.{wire_fault, digest_fault, inside, with_fault}
 use Rattle.cas_messages.specs.Table.{Kind, int32, int64, bool, text, bytes, digest, optional_digest, int32_list, text_list, bytes_list, digest_list, Of, Table, end, field, message, message_list, Value}
 
 -- the last varint of a number counts; a missing one is 0

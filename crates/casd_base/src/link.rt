@@ -40,7 +40,7 @@ pub trait Link {
         ensures write_faults { write_faults self.new ≡ write_faults self.old }
         ensures at_end { NotesEnd (sent self.old) (at_end self.old) (at_end self.new) (length buf.new) result };
 
-    /// Writes a front of the bytes, and answers how many. For bytes that aren't empty it is at least 1.
+    /// Writes a prefix of the bytes, and answers how many. For bytes that aren't empty it is at least 1.
     fn write(&mut self, bytes: &[u8]) -> Result<usize, SinkEnd>
         ensures bound { IfOk result (λ n. n ≤ length bytes.now) }
         ensures some { IfOk result (λ n. 0 < length bytes.now → 0 < n) }

@@ -40,7 +40,7 @@ pub trait Sink {
     // how many writes failed, up to 2^64 - 1
     ghost write_faults: { Self → ℕ };
 
-    /// Writes a front of the bytes, and answers how many. For bytes that aren't empty it is at least 1.
+    /// Writes a prefix of the bytes, and answers how many. For bytes that aren't empty it is at least 1.
     fn write(&mut self, bytes: &[u8]) -> Result<usize, SinkEnd>
         ensures bound { IfOk result (λ n. n ≤ length bytes.now) }
         ensures some { IfOk result (λ n. 0 < length bytes.now → 0 < n) }

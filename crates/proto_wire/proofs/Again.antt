@@ -6,7 +6,8 @@ use Rattle.std.proofs.lemmas.List.{length-append, take_at, drop_at}
 use Rattle.proto_wire.specs.declared.fault.WireError.{WireError}
 use Rattle.proto_wire.specs.Field.{WireField, WireValue, int, fixed64, bytes, fixed32}
 use Rattle.proto_wire.specs.Wire.{Groups, IsVarint, IsContent, IsSpelling, Wire, wire_type}
-use Rattle.proto_wire.specs.Reading.{◌>>=◌, varint_at, fixed_at, tag_at, sized_at, value_at, field_at, fields_in}
+use Rattle.proto_wire.specs.Steps.{◌>>=◌}
+use Rattle.proto_wire.specs.Reading.{varint_at, fixed_at, tag_at, sized_at, value_at, field_at, fields_in}
 use Rattle.proto_wire.proofs.Bounds.{bound_ten}
 use Rattle.proto_wire.proofs.Varints.{varint_again}
 use Rattle.proto_wire.proofs.Shrinks.{fields_more}

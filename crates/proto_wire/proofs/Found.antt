@@ -7,7 +7,8 @@ use Rattle.proto_wire.specs.declared.fault.WireError.{WireError}
 use Rattle.proto_wire.specs.declared.fault.WireError.TheVariants as errors
 use Rattle.proto_wire.specs.Field.{WireField, WireValue, bytes}
 use Rattle.proto_wire.specs.Wire.{IsVarint, IsContent, IsSpelling, Wire, wire_type}
-use Rattle.proto_wire.specs.Reading.{IsBytes, ◌>>=◌, fixed_at, sized_at, value_at, field_at, fields_in}
+use Rattle.proto_wire.specs.Steps.{◌>>=◌}
+use Rattle.proto_wire.specs.Reading.{IsBytes, fixed_at, sized_at, value_at, field_at, fields_in}
 use Rattle.proto_wire.proofs.Bounds.{bound_ten}
 use Rattle.proto_wire.proofs.Varints.{TakesVarint, varint_takes}
 use Rattle.proto_wire.proofs.Steps.{bind_ok, bind_err, guard_ok, ok_is}

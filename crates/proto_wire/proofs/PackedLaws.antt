@@ -3,7 +3,7 @@ use Rattle.std.proofs.Common.{◌≡◌, ℕ, ◌^◌, ◌<◌, List, [], ◌∷
 use Rattle.std.specs.List.{flat_map, AllByRecursion}
 use Rattle.std.proofs.lemmas.List.{length-append}
 use Rattle.proto_wire.specs.declared.fault.WireError.{WireError}
-use Rattle.proto_wire.specs.Reading.{◌>>=◌}
+use Rattle.proto_wire.specs.Steps.{◌>>=◌}
 use Rattle.proto_wire.specs.Spelling.{varint}
 use Rattle.proto_wire.specs.Packed.{varints_in}
 use Rattle.proto_wire.proofs.Again.{ten_again, some_groups}

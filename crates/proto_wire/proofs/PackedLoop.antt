@@ -3,11 +3,11 @@ use Rattle.std.proofs.Common.{◌≡◌, ℕ, zero, suc, ◌+◌, ◌<◌, ◌�
 use Rattle.std.proofs.lemmas.List.{append-nil, drop_all}
 use Rattle.proto_wire.specs.declared.fault.WireError.{WireError}
 use Rattle.proto_wire.specs.Field.{WireField}
-use Rattle.proto_wire.specs.Reading.{◌>>=◌, Fails, varint_at}
-use Rattle.proto_wire.specs.Packed.{varints_in, numbers_of, packed_of, with_front}
-use Rattle.proto_wire.proofs.Steps.{bind_same, fails_along}
+use Rattle.proto_wire.specs.Steps.{◌>>=◌, with_front}
+use Rattle.proto_wire.specs.Reading.{wants_memory, Fails, varint_at}
+use Rattle.proto_wire.specs.Packed.{varints_in, numbers_of, packed_of}
+use Rattle.proto_wire.proofs.Steps.{bind_same, fails_along, regroup}
 use Rattle.proto_wire.proofs.Shrinks.{varint_shrinks}
-use Rattle.proto_wire.proofs.Loop.{regroup}
 
 -- how much fuel there is makes no difference once it is enough
 varints_fuel : (fuel more at : ℕ) (text : List ℕ) → length text ≤ fuel → length text ≤ more → varints_in fuel at text ≡ varints_in more at text
@@ -50,7 +50,7 @@ varint_goes_on front at rest after n total lt h so_far =
 pub varint_ends : (e : WireError) (front : List ℕ) (at : ℕ) (rest : List ℕ) (total : Result (List ℕ) WireError) → 0 < length rest → Fails e (varint_at at 10 rest)
     → read_varints front at rest ≡ total → Fails e total
 varint_ends e front at rest total lt h so_far =
-    fails_along e (varint_at at 10 rest) total (λ fault. sym so_far ∙ ap (with_front front) (varints_stop at rest e lt fault)) h
+    fails_along wants_memory e (varint_at at 10 rest) total (λ fault. sym so_far ∙ ap (with_front front) (varints_stop at rest e lt fault)) h
 
 pub varints_done : (front : List ℕ) (at : ℕ) (rest : List ℕ) (total : Result (List ℕ) WireError) → length rest ≡ 0 → read_varints front at rest ≡ total → total ≡ Ok front
 unfolding varints_in
@@ -82,7 +82,7 @@ field_ends : (e : WireError) (number : ℕ) (front : List ℕ) (f : WireField) (
     → read_packed number front (f ∷ fs) ≡ total → Fails e total
 unfolding packed_of
 field_ends e number front f fs total h so_far =
-    fails_along e (with_front front (numbers_of number f)) total (λ fault. sym so_far ∙ part_fails front e (numbers_of number f) (packed_of number fs) fault) h
+    fails_along wants_memory e (with_front front (numbers_of number f)) total (λ fault. sym so_far ∙ part_fails front e (numbers_of number f) (packed_of number fs) fault) h
 
 -- the rest of a list, as a loop over it sees it
 rest_cons : {X Y : Type 0} (v : X → Y) (items : List X) (i : ℕ) (d : X) → i < length items → map v (drop i items) ≡ v (get_or items i d) ∷ map v (drop (i + 1) items)

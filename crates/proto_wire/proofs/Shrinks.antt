@@ -7,7 +7,8 @@ use Rattle.std.proofs.lemmas.List.{length-drop}
 use Rattle.proto_wire.specs.declared.fault.WireError.{WireError}
 use Rattle.proto_wire.specs.declared.fault.WireError.TheVariants as errors
 use Rattle.proto_wire.specs.Field.{WireField, WireValue, int, fixed64, bytes, fixed32}
-use Rattle.proto_wire.specs.Reading.{◌>>=◌, varint_at, fixed_at, tag_at, sized_at, value_at, field_at, fields_in}
+use Rattle.proto_wire.specs.Steps.{◌>>=◌}
+use Rattle.proto_wire.specs.Reading.{varint_at, fixed_at, tag_at, sized_at, value_at, field_at, fields_in}
 use Rattle.proto_wire.proofs.Steps.{bind_ok, bind_same, guard_ok, passed, chosen, ok_is}
 
 pub varint_shrinks : (at more : ℕ) (text : List ℕ) (x : ℕ × List ℕ) → varint_at at more text ≡ Ok x → length x.1 < length text

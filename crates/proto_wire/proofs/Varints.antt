@@ -4,7 +4,8 @@ use Rattle.std.proofs.lemmas.Bool.{cases_lt, lt-ltb, le-ltb, le-leb, lt-leb, ltb
 use Rattle.std.proofs.lemmas.List.{get_or-drop, take_rest}
 use Rattle.proto_wire.specs.declared.fault.WireError.TheVariants as errors
 use Rattle.proto_wire.specs.Wire.{Groups}
-use Rattle.proto_wire.specs.Reading.{IsBytes, ◌>>=◌, varint_at}
+use Rattle.proto_wire.specs.Steps.{◌>>=◌}
+use Rattle.proto_wire.specs.Reading.{IsBytes, varint_at}
 use Rattle.proto_wire.specs.Spelling.{bound, groups_of}
 use Rattle.proto_wire.proofs.Bounds.{bound_step, bound_small, bound_low, bound_more, groups_end, groups_step}
 use Rattle.proto_wire.proofs.Steps.{bind_ok, guard_ok, chosen, ok_is}

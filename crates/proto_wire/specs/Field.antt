@@ -1,4 +1,4 @@
--- Fields as plain values, and what is looked up in a row of them.
+-- Fields as plain values, and what is looked up in a sequence of them.
 use Rattle.std.specs.Prelude.{◌-◌, ◌==◌, ℕ, List, [], ◌∷◌, length, Option, Some, None, if◌then◌else◌, slice_get}
 use Rattle.std.specs.List.{filter_map, concat}
 use Rattle.proto_wire.specs.declared.field.Value.{Value}
@@ -63,7 +63,7 @@ contents_of number fs = filter_map (bytes_of number) fs
 abbrev pub last_of : {A : Type 0} → List A → Option A
 last_of xs = slice_get xs (length xs - 1)
 
--- the contents one after the other, where there are any
+-- the contents one after the other, if there are any
 abbrev pub joined_of : List (List ℕ) → Option (List ℕ)
 joined_of [] = None
 joined_of (c ∷ cs) = Some (concat (c ∷ cs))

@@ -1,9 +1,10 @@
 -- Repeated varints (Protocol Buffers, Encoding, "Packed repeated fields"): a list stands in one field with a length,
--- one varint after the other, or in fields of its own for each number, or partly so.
+-- one varint after the other, or each number in a field of its own, or partly so.
 use Rattle.std.specs.Prelude.{◌==◌, ℕ, zero, suc, List, [], ◌∷◌, ◌++◌, length, Result, Ok, if◌then◌else◌}
 use Rattle.proto_wire.specs.declared.fault.WireError.{WireError}
 use Rattle.proto_wire.specs.Field.{WireValue, int, fixed64, bytes, fixed32, WireField}
-use Rattle.proto_wire.specs.Reading.{◌>>=◌, varint_at}
+use Rattle.proto_wire.specs.Steps.{◌>>=◌}
+use Rattle.proto_wire.specs.Reading.{varint_at}
 
 -- The varints of a packed list. A fault stands at the first byte of the field. `fuel` is at least the length.
 unfoldable pub varints_in : ℕ → ℕ → List ℕ → Result (List ℕ) WireError
@@ -32,7 +33,3 @@ packed_of number (f ∷ fs) = do
   ns ← numbers_of number f
   others ← packed_of number fs
   Ok (ns ++ others)
-
--- what was read before, then what is read now
-abbrev pub with_front : {A : Type 0} → List A → Result (List A) WireError → Result (List A) WireError
-with_front front read = read >>= λ xs. Ok (front ++ xs)

@@ -1,35 +1,30 @@
 -- Reading fields from left to right, with the first fault that is met and its place.
-use Rattle.std.specs.Prelude.{◌≡◌, ◌≢◌, ◌+◌, ◌-◌, ◌*◌, ◌/◌, ◌%◌, ◌==◌, ◌||◌, nat_lt, nat_le, ℕ, zero, suc, List, [], ◌∷◌, ◌++◌, length, take, drop, ◌<◌, slice_index_or, Result, Ok, Err, if◌then◌else◌}
+use Rattle.std.specs.Prelude.{◌≡◌, ◌≢◌, ◌+◌, ◌-◌, ◌*◌, ◌/◌, ◌%◌, ◌==◌, ◌||◌, nat_lt, nat_le, ℕ, zero, suc, Bool, true, false, List, [], ◌∷◌, ◌++◌, length, take, drop, ◌<◌, slice_index_or, Result, Ok, Err, if◌then◌else◌}
 use Rattle.std.specs.Int.{Width, w32, w64, byte_len, from_le_bytes}
 use Rattle.proto_wire.specs.declared.fault.WireError.{WireError}
 use Rattle.proto_wire.specs.declared.fault.WireError.TheVariants as errors
+use Rattle.proto_wire.specs.Steps.{◌>>=◌, FailsBut, GivesBut}
 use Rattle.proto_wire.specs.Field.{WireValue, int, fixed64, bytes, fixed32, WireField}
 use Rattle.proto_wire.specs.Wire.{IsSpelling, Wire}
 
--- each number is one of a byte
+-- each number is that of a byte
 abbrev pub IsBytes : List ℕ → Type 0
 IsBytes text = (i : ℕ) → slice_index_or text i 0 < 256
 
--- the next step, where the one before gave a value
-infixl 10 ◌>>=◌
-abbrev pub ◌>>=◌ : {A B : Type 0} → Result A WireError → (A → Result B WireError) → Result B WireError
-(Ok x) >>= f = f x
-(Err e) >>= f = Err e
+-- want of memory
+abbrev pub wants_memory : WireError → Bool
+wants_memory errors.OutOfMemory = true
+wants_memory _ = false
 
--- what a refusal of the code says of what reading gives: want of memory says nothing
+-- what a refusal says of what reading gives: want of memory says nothing
 abbrev pub Fails : {Y : Type 0} → WireError → Result Y WireError → Type 0
-Fails errors.OutOfMemory read = Unit {0}
-Fails (errors.Truncated at) read = read ≡ Err (errors.Truncated at)
-Fails (errors.BadTag at) read = read ≡ Err (errors.BadTag at)
-Fails (errors.BadVarint at) read = read ≡ Err (errors.BadVarint at)
-Fails (errors.Group at) read = read ≡ Err (errors.Group at)
+Fails e read = FailsBut wants_memory e read
 
--- What a function of the code returned, seen by view, is what reading gives, unless memory ran out.
+-- what a function returned, seen by view, is what reading gives, unless memory ran out
 abbrev pub Gives : {X Y : Type 0} → (X → Y) → Result X WireError → Result Y WireError → Type 0
-Gives view (Ok x) read = read ≡ Ok (view x)
-Gives view (Err e) read = Fails e read
+Gives view result read = GivesBut wants_memory view result read
 
--- a varint that may still have so many bytes, and the bytes after it
+-- a varint of at most `more` bytes, and the bytes after it
 unfoldable pub varint_at : ℕ → ℕ → List ℕ → Result (ℕ × List ℕ) WireError
 varint_at at more [] = Err (errors.Truncated at)
 varint_at at more (b ∷ rest) =
@@ -39,7 +34,7 @@ varint_at at more (b ∷ rest) =
       high ← varint_at at (more - 1) rest
       Ok (b - 128 + 128 * high.0, high.1))
 
--- a number of so many bytes, little-endian
+-- a number of this width, little-endian
 abbrev pub fixed_at : ℕ → Width → List ℕ → Result (ℕ × List ℕ) WireError
 fixed_at at w text =
     if nat_lt (length text) (byte_len w) then Err (errors.Truncated at)
@@ -53,7 +48,7 @@ tag_at at text = do
       else if nat_lt 5 (key.0 % 8) || key.0 / 8 == 0 || nat_lt 0x1fff_ffff (key.0 / 8) then Err (errors.BadTag at)
       else Ok ((key.0 / 8, key.0 % 8), key.1)
 
--- so many bytes as a varint before them says
+-- as many bytes as the varint before them says
 unfoldable pub sized_at : ℕ → List ℕ → Result (List ℕ × List ℕ) WireError
 sized_at at text = do
   size ← varint_at at 10 text
@@ -96,7 +91,7 @@ fields_in (suc fuel) whole (b ∷ bs) = do
 unfoldable pub fields_of : List ℕ → Result (List WireField) WireError
 fields_of text = fields_in (length text) (length text) text
 
--- Where a refusal comes: behind the longest front that is a row of fields, where the bytes go on, but no spelling of
+-- Where a refusal comes: behind the longest prefix that is a sequence of fields, where the bytes go on, but no spelling of
 -- a field begins. Which one it is, is the first fault of a field that is read there.
 pub record Refuses (text : List ℕ) (e : WireError) : Type 0 where
   pub front : List ℕ

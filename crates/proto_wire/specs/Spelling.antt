@@ -4,7 +4,7 @@ use Rattle.std.specs.Int.{w32, w64, to_le_bytes}
 use Rattle.proto_wire.specs.Field.{WireValue, int, fixed64, bytes, fixed32, WireField}
 use Rattle.proto_wire.specs.Wire.{wire_type}
 
--- a number in at most so many groups of seven bits, the lowest first; each byte but the last has its top bit set
+-- a number in at most this many groups of seven bits, the lowest first; each byte but the last has its top bit set
 unfoldable pub groups_of : ℕ → ℕ → List ℕ
 groups_of zero n = n ∷ []
 groups_of (suc more) n = if more == 0 || nat_lt n 128 then n ∷ [] else (n % 128 + 128) ∷ groups_of more (n / 128)
@@ -13,7 +13,7 @@ groups_of (suc more) n = if more == 0 || nat_lt n 128 then n ∷ [] else (n % 12
 abbrev pub varint : ℕ → List ℕ
 varint n = groups_of 10 n
 
--- what a varint of so many bytes stays below: the last of ten bytes is at most 1
+-- what a varint of this many bytes stays below: the last of ten bytes is at most 1
 unfoldable pub bound : ℕ → ℕ
 bound zero = 0
 bound (suc more) = if more == 0 then 2 else 128 * bound more

@@ -1,4 +1,4 @@
-//! Why bytes are no row of fields.
+//! Why bytes are no sequence of fields.
 
 ghost use Rattle.std.specs.Prelude.{◌≡◌};
 ghost use Rattle.proto_wire.specs.declared.fault.WireError.TheVariants.{OutOfMemory as NoMemory};
@@ -6,7 +6,7 @@ ghost use Rattle.proto_wire.specs.declared.fault.WireError.TheVariants.{OutOfMem
 use crate::memory::OutOfMemory;
 use std::alloc::{AllocError, AllocFailed};
 
-/// The first fault of some bytes. `at` is the first byte of the first field that offends.
+/// The first fault of some bytes. `at` is the place of the first byte of the first malformed field, from 0.
 #[derive(Clone, Copy, Debug, PartialEq, Eq)]
 pub enum WireError {
     /// The bytes end inside the field.

@@ -1,4 +1,4 @@
-//! A field, and a row of them.
+//! A field, and a sequence of them.
 
 ghost use Rattle.std.specs.Prelude.{◌≡◌, map, length};
 ghost use Rattle.proto_wire.specs.Field.{field_view, WireField, int_of, bytes_of};
@@ -12,7 +12,7 @@ pub enum Value<'a> {
     Int(u64),
     /// Eight bytes, little-endian.
     Fixed64(u64),
-    /// So many bytes as a varint before them says.
+    /// As many bytes as the varint before them says.
     Bytes(&'a [u8]),
     /// Four bytes, little-endian.
     Fixed32(u32),

@@ -1,4 +1,4 @@
-//! What is looked up in a row of fields.
+//! What is looked up in a sequence of fields.
 
 ghost use Rattle.std.specs.Prelude.{◌≡◌, ◌↔◌, IsSome, IfSome, IfOk, IsUtf8, map};
 ghost use Rattle.std.specs.Option.{option_map, option_copied};
@@ -77,7 +77,7 @@ pub fn contents<'a>(
     Ok(found)
 }
 
-/// The contents of this number one after the other, which merges the parts of a message. None where there is none.
+/// The contents of this number one after the other, which merges the parts of a message. `None` if there are none.
 pub fn joined(alloc: Global, fields: &Fields<'_>, number: u32) -> Result<Option<Bytes>, OutOfMemory>
     ensures { IfOk result (λ o. o ≡ joined_of (contents_of number fields.now)) }
 {
@@ -92,7 +92,7 @@ pub fn joined(alloc: Global, fields: &Fields<'_>, number: u32) -> Result<Option<
     Ok(Some(Bytes::from_vec(whole)))
 }
 
-/// The bytes as text, where they are UTF-8. It takes no memory.
+/// The bytes as text, if they are UTF-8. It takes no memory.
 pub fn text(bytes: &[u8]) -> Option<&str>
     ensures utf8 { IsSome result ↔ IsUtf8 bytes.now }
     ensures same { IfSome result (λ s. s.now ≡ bytes.now) }

@@ -15,7 +15,7 @@ mod repeated;
 mod utf8;
 mod write;
 
-pub use bytes::Bytes;
+pub use bytes::{Bytes, drop_front};
 pub use fault::WireError;
 pub use field::{Field, Fields, Value};
 pub use find::{contents, joined, last_bytes, last_int, text};

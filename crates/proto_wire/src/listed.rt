@@ -1,6 +1,6 @@
 //! `Listed`.
 
-ghost use Rattle.std.specs.Prelude.{◌≡◌, ◌++◌, ◌∷◌, ◌==◌, [], length, OnOk, OnErr};
+ghost use Rattle.std.specs.Prelude.{◌≡◌, ◌++◌, ◌∷◌, ◌==◌, [], length, IfOk, OnOk, OnErr};
 
 use crate::memory::OutOfMemory;
 use std::alloc::Global;
@@ -69,6 +69,25 @@ impl<T: Drop> Listed<T> {
         ensures err { OnErr result (self.new ≡ self.old) }
     {
         self.vec.push(value)?;
+        Ok(())
+    }
+}
+
+impl<T: Copy + Drop> Listed<T> {
+    /// A copy of some values.
+    pub fn copy_of(alloc: Global, values: &[T]) -> Result<Listed<T>, OutOfMemory>
+        ensures { IfOk result (λ l. l ≡ values.now) }
+    {
+        let vec = Vec::from_slice(alloc, values)?;
+        Ok(Listed { vec })
+    }
+
+    /// Adds copies of some values at the end.
+    pub fn push_slice(&mut self, values: &[T]) -> Result<(), OutOfMemory>
+        ensures ok { OnOk result (self.new ≡ self.old ++ values.now) }
+        ensures err { OnErr result (self.new ≡ self.old) }
+    {
+        self.vec.extend_from_slice(values)?;
         Ok(())
     }
 }

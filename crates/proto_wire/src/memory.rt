@@ -1,4 +1,4 @@
-//! The want of memory.
+//! `OutOfMemory`.
 
 use std::alloc::{AllocError, AllocFailed};
 

@@ -140,9 +140,9 @@ fn all(alloc: Global, bytes: &[u8]) -> Result<Fields<'_>, WireError>
 
 /// All fields of the bytes, in their order.
 pub fn fields(alloc: Global, bytes: &[u8]) -> Result<Fields<'_>, WireError>
-    // What is read is spelled so, each byte of it.
+    // What is read is spelled by the bytes, all of them.
     ensures found { IfOk result (Wire 0 bytes.now) }
-    // What is spelled so is read, unless memory runs out.
+    // What they spell is read, unless memory runs out.
     ensures only { (fs : List WireField) → Wire 0 bytes.now fs → Gives (λ fs. fs) result (Ok fs) }
     // A refusal comes where no field begins, and says which fault is the first there.
     ensures refused { IfErr result (λ e. (e ≡ WireError.OutOfMemory) ⊎ Refuses bytes.now e) }

@@ -3,9 +3,10 @@
 ghost use Rattle.std.specs.Prelude.{◌≡◌, length, IfOk};
 ghost use Rattle.std.specs.List.{flat_map};
 ghost use Rattle.proto_wire.specs.Field.{field_view};
+ghost use Rattle.proto_wire.specs.Steps.{with_front};
 ghost use Rattle.proto_wire.specs.Reading.{Gives};
 ghost use Rattle.proto_wire.specs.Spelling.{varint};
-ghost use Rattle.proto_wire.specs.Packed.{varints_in, numbers_of, packed_of, with_front};
+ghost use Rattle.proto_wire.specs.Packed.{varints_in, numbers_of, packed_of};
 
 use crate::bytes::Bytes;
 use crate::fault::WireError;
@@ -15,8 +16,8 @@ use crate::read::varint;
 use crate::write::push_varint;
 use std::alloc::Global;
 
-/// The varints of this number, in their order, packed or not. A packed list that is no row of varints is refused at
-/// the first byte of its field.
+/// The varints of this number, in their order, packed or not. A malformed packed list is refused at the first
+/// byte of its field.
 pub fn packed(alloc: Global, fields: &Fields<'_>, number: u32) -> Result<Vec<u64>, WireError>
     ensures { Gives (λ v. v.items) result (packed_of number fields.now) }
 {

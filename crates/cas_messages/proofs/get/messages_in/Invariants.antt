@@ -2,7 +2,7 @@ use Rattle.std.proofs.Common.{◌≡◌, map, drop}
 use Rattle.proto_wire.specs.Field.{contents_of}
 use Rattle.cas_messages.specs.Fault.{with_fault, inside}
 use Rattle.cas_messages.specs.Meaning.{each, message_in}
-use Rattle.cas_messages.proofs.EachLemmas.{with_front}
+use Rattle.proto_wire.specs.Steps.{with_front}
 use Rattle.cas_messages.proofs.get.messages_in.Given as goal
 
 abbrev pub invariant-contents : goal.invariant-contents

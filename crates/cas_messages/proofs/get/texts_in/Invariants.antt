@@ -1,7 +1,7 @@
 use Rattle.std.proofs.Common.{◌≡◌, map, drop}
 use Rattle.proto_wire.specs.Field.{contents_of}
 use Rattle.cas_messages.specs.Meaning.{each, text_from}
-use Rattle.cas_messages.proofs.EachLemmas.{with_front}
+use Rattle.proto_wire.specs.Steps.{with_front}
 use Rattle.cas_messages.proofs.get.texts_in.Given as goal
 
 abbrev pub invariant-contents : goal.invariant-contents
