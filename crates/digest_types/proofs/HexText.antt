@@ -1,12 +1,14 @@
 -- Hex text in lower case: it gives the bytes that it was written of, and no other text does.
-use Rattle.std.proofs.Common.{◌≡◌, ℕ, zero, suc, ◌+◌, ◌*◌, ◌/◌, ◌%◌, ◌<◌, Bool, true, false, cond, eqb, ltb, ◌&&◌, List, [], ◌∷◌, slice_index, Option, Some, None, Result, Ok, Err, refl, sym, ◌∙◌, inl, inr, arith}
+use Rattle.std.proofs.Common.{◌≡◌, ℕ, zero, suc, ◌+◌, ◌*◌, ◌/◌, ◌%◌, ◌<◌, Bool, true, false, cond, eqb, ltb, ◌&&◌, List, [], ◌∷◌, length, slice_index, Option, Some, None, Result, Ok, Err, refl, sym, ap, ◌∙◌, inl, inr, arith}
 use Rattle.std.specs.List.{list_all}
 use Rattle.std.specs.Result.{result_ok}
 use Rattle.std.proofs.lemmas.Bool.{and_parts, cases_lt, eqb-true}
-use Rattle.hex.specs.Hex.{◌>>=◌, IsBytes, lower_digits, encode_lower, encode_with, hex_digit_value, digit_or_error, value_at, pair_value, decode_pairs, decode_of}
+use Rattle.hex.specs.Hex.{IsBytes, lower_digits, encode_lower, encode_with, hex_digit_value, digit_or_error, value_at, pair_value, decode_pairs, decode_of}
 use Rattle.hex.specs.declared.error.FromHexError.{FromHexError}
-use Rattle.hex.proofs.HexLemmas.{decode_of-encode_lower, decode_of-ok, decode_of-even}
+use Rattle.hex.proofs.HexLemmas.{length-encode_with, decode_of-encode_lower, decode_of-ok, decode_of-even}
+use Rattle.proto_wire.proofs.Steps.{bind_ok, ok_is}
 use Rattle.digest_types.specs.Hex.{is_lower_digit, unhex_of}
+use Rattle.digest_types.specs.Reading.{hash_of}
 
 -- ---- the digits
 
@@ -64,16 +66,6 @@ unhex_of-again bytes fits = rw (encode_lower-digits bytes fits, decode_of-encode
 
 -- ---- what is read was written so
 
-bind_ok : {A B : Type 0} (r : Result A FromHexError) (f : A → Result B FromHexError) (y : B) → (r >>= f) ≡ Ok y → (x : A) × (r ≡ Ok x) × (f x ≡ Ok y)
-bind_ok (Ok x) f y e = (x, refl, e)
-bind_ok (Err d) f y e = absurd cc
-
-abbrev done : {A : Type 0} → A → Result A FromHexError
-done x = Ok x
-
-ok_is : {A : Type 0} (x y : A) → done x ≡ done y → x ≡ y
-ok_is x y e = cc
-
 digit_read : (c i : ℕ) (o : Option ℕ) (v : ℕ) → digit_or_error c i o ≡ Ok v → o ≡ Some v
 digit_read c i (Some w) v e = cc
 digit_read c i None v e = absurd cc
@@ -115,3 +107,17 @@ unhex_of-found text bytes e =
     let read = result_ok-some (decode_of text) bytes parts.1 in
     let ok = decode_of-ok text bytes read in
     (ok.3, decode_pairs-found 0 text bytes parts.0 (sym (decode_of-even text ok.0) ∙ read))
+
+-- what a hash that is read says of its text
+pub record IsHash (text hash : List ℕ) : Type 0 where
+  pub len : length hash ≡ 32
+  pub bytes : IsBytes hash
+  pub text_is : encode_lower hash ≡ text
+
+pub hash_found : (text hash : List ℕ) → hash_of text ≡ Some hash → IsHash text hash
+unfolding hash_of
+hash_found text hash e =
+    let parts = if_some (eqb (length text) 64) (unhex_of text) hash e in
+    let found = unhex_of-found text hash parts.1 in
+    let long = eqb-true (length text) 64 parts.0 in
+    record { len = omega (arith, long, ap length found.1, length-encode_with lower_digits hash); bytes = found.0; text_is = found.1 }

@@ -1,20 +1,18 @@
 -- The text of a digest: what is printed is parsed, and what is parsed was printed so.
-use Rattle.std.proofs.Common.{◌≡◌, ℕ, suc, ◌+◌, ◌<◌, Bool, true, false, not, cond, Bor, take, drop, eqb, List, [], ◌∷◌, ◌++◌, length, Option, Some, None, Result, Ok, Err, refl, sym, ap, subst, ◌∙◌, arith}
-use Rattle.std.specs.Prelude.{IfOk, MatchOption}
+use Rattle.std.proofs.Common.{◌≡◌, ℕ, suc, ◌+◌, ◌<◌, Bool, true, false, not, cond, Bor, take, drop, eqb, List, [], ◌∷◌, ◌++◌, length, Option, Some, None, Ok, refl, sym, ap, subst, ◌∙◌, arith}
+use Rattle.std.specs.Prelude.{MatchOption}
 use Rattle.std.specs.Fmt.{decimal}
 use Rattle.std.specs.List.{list_all, position_or_len, before_first, after_first}
 use Rattle.std.proofs.lemmas.Bool.{and_parts, eqb-true, ne_eqb}
 use Rattle.std.proofs.lemmas.List.{take_all}
 use Rattle.std.proofs.lemmas.Str.Pattern.{IsSplitOnceResult, split_once_first}
-use Rattle.hex.specs.Hex.{IsBytes, encode_lower, lower_digits}
-use Rattle.hex.proofs.HexLemmas.{length-encode_with}
-use Rattle.digest_types.specs.declared.error.DigestError.{DigestError}
+use Rattle.hex.specs.Hex.{encode_lower}
 use Rattle.digest_types.specs.Name.{HashAndSize}
-use Rattle.digest_types.specs.Hex.{is_lower_digit, unhex_of}
+use Rattle.digest_types.specs.Hex.{is_lower_digit}
 use Rattle.digest_types.specs.Digest.{IsDigest, printed}
-use Rattle.digest_types.specs.Reading.{Gives, hash_of}
+use Rattle.digest_types.specs.Reading.{hash_of}
 use Rattle.digest_types.specs.Parsing.{before_slash, after_slash, size_of, sized, size_in, hashed, parsed}
-use Rattle.digest_types.proofs.HexText.{encode_lower-digits, unhex_of-found}
+use Rattle.digest_types.proofs.HexText.{encode_lower-digits, hash_found}
 use Rattle.digest_types.proofs.Written.{hash_again}
 use Rattle.digest_types.proofs.Decimals.{size_of-decimal, size_of-found}
 
@@ -92,24 +90,6 @@ printed-parsed d is =
 
 -- ---- what is parsed was printed so
 
-if_long : (t : Bool) (o : Option (List ℕ)) (x : List ℕ) → cond t o None ≡ Some x → (t ≡ true) × (o ≡ Some x)
-if_long true o x e = (refl, e)
-if_long false o x e = absurd cc
-
--- what a hash that is read says of its text
-record IsHash (text hash : List ℕ) : Type 0 where
-  len : length hash ≡ 32
-  bytes : IsBytes hash
-  text_is : encode_lower hash ≡ text
-
-hash_found : (text hash : List ℕ) → hash_of text ≡ Some hash → IsHash text hash
-unfolding hash_of
-hash_found text hash e =
-    let parts = if_long (eqb (length text) 64) (unhex_of text) hash e in
-    let found = unhex_of-found text hash parts.1 in
-    let long = eqb-true (length text) 64 parts.0 in
-    record { len = omega (arith, long, ap length found.1, length-encode_with lower_digits hash); bytes = found.0; text_is = found.1 }
-
 sized_is : (hash : List ℕ) (o : Option ℕ) (d : HashAndSize) → sized hash o ≡ Ok d → (size : ℕ) × (o ≡ Some size) × (d ≡ record { hash = hash; size = size })
 sized_is hash (Some size) d e = (size, refl, cc)
 sized_is hash None d e = absurd cc
@@ -134,12 +114,3 @@ parsed-found text d e =
     let is : IsDigest made = record { len = hash.len; bytes = hash.bytes; size = size.0 } in
     let text_is : printed made ≡ text = rw (hash.text_is, size.1) (slash-found text r.0 r.1) in
     subst (λ (x : HashAndSize). IsDigest x × (printed x ≡ text)) (sym s.2) (is, text_is)
-
--- the same of what the code returns
-pub parse_is : (text : List ℕ) (r : Result HashAndSize DigestError) → Gives (λ d. d) r (parsed text) → IfOk r IsDigest
-parse_is text (Ok d) h = (parsed-found text d h).0
-parse_is text (Err e) h = tt
-
-pub parse_printed : (text : List ℕ) (r : Result HashAndSize DigestError) → Gives (λ d. d) r (parsed text) → IfOk r (λ d. printed d ≡ text)
-parse_printed text (Ok d) h = (parsed-found text d h).1
-parse_printed text (Err e) h = tt

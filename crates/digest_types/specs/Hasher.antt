@@ -1,4 +1,4 @@
--- What a hasher has taken in.
+-- The bytes that a hasher has taken.
 use Rattle.std.specs.Prelude.{◌≡◌, ℕ, List, length}
 use Rattle.sha2.specs.Hashers.{Holds256}
 use Rattle.digest_types.specs.declared.hasher.Hasher.{Hasher}

@@ -8,6 +8,6 @@ use Rattle.hex.specs.Hex.{decode_of}
 abbrev pub is_lower_digit : ℕ → Bool
 is_lower_digit c = nat_le 48 c && nat_le c 57 || nat_le 97 c && nat_le c 102
 
--- the bytes whose lower-case hex this is
+-- the bytes that a text spells in lower-case hex
 unfoldable pub unhex_of : List ℕ → Option (List ℕ)
 unhex_of text = if list_all is_lower_digit text then result_ok (decode_of text) else None

@@ -20,22 +20,22 @@ after_slash (c ∷ cs) = if c == 47 then Some cs else after_slash cs
 abbrev pub is_digit : ℕ → Bool
 is_digit c = nat_le 48 c && nat_le c 57
 
--- a decimal number without sign and leading zero
+-- a decimal number without sign and leading zeros
 abbrev pub is_decimal : List ℕ → Bool
 is_decimal [] = false
 is_decimal (c ∷ []) = is_digit c
 is_decimal (c ∷ d ∷ rest) = is_digit c && not (c == 48) && list_all is_digit (d ∷ rest)
 
--- the number that these digits stand for, behind digits that stand for `front`
+-- the number that the digits stand for, after others that stand for `front`
 unfoldable pub value_of : ℕ → List ℕ → ℕ
 value_of front [] = front
 value_of front (c ∷ rest) = value_of (10 * front + (c - 48)) rest
 
--- a decimal number of at most 2^63 - 1 without sign and leading zero
+-- a decimal number of at most 2^63 - 1 without sign and leading zeros
 unfoldable pub size_of : List ℕ → Option ℕ
 size_of text = if is_decimal text && nat_lt (value_of 0 text) (2 ^ 63) then Some (value_of 0 text) else None
 
--- a digest of a hash and a size that were read or not
+-- the digest of a hash and of a size, if there is one
 abbrev pub sized : List ℕ → Option ℕ → Result HashAndSize DigestError
 sized hash None = Err errors.BadSize
 sized hash (Some size) = Ok (record { hash = hash; size = size })
@@ -48,6 +48,6 @@ abbrev pub hashed : Option (List ℕ) → List ℕ → Result HashAndSize Digest
 hashed None text = Err errors.BadHash
 hashed (Some hash) text = sized hash (size_in (after_slash text))
 
--- the digest whose text this is
+-- the digest that the text spells
 unfoldable pub parsed : List ℕ → Result HashAndSize DigestError
 parsed text = hashed (hash_of (before_slash text)) text

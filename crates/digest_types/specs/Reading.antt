@@ -1,9 +1,10 @@
 -- Reading the message of a digest, with the first fault that is met.
-use Rattle.std.specs.Prelude.{◌≡◌, ◌^◌, ◌==◌, nat_lt, unwrap_or, ℕ, List, [], length, Option, Some, None, Result, Ok, Err, if◌then◌else◌}
+use Rattle.std.specs.Prelude.{◌^◌, ◌==◌, nat_lt, unwrap_or, ℕ, Bool, true, false, List, [], length, Option, Some, None, Result, Ok, Err, if◌then◌else◌}
 use Rattle.proto_wire.specs.declared.fault.WireError.{WireError}
 use Rattle.proto_wire.specs.declared.fault.WireError.TheVariants as wire
 use Rattle.proto_wire.specs.Field.{WireField, last_of, ints, contents_of}
 use Rattle.proto_wire.specs.Reading.{fields_of}
+use Rattle.proto_wire.specs.Steps.{FailsBut, GivesBut}
 use Rattle.digest_types.specs.declared.error.DigestError.{DigestError}
 use Rattle.digest_types.specs.declared.error.DigestError.TheVariants as errors
 use Rattle.digest_types.specs.Name.{HashAndSize}
@@ -17,29 +18,29 @@ refusal_of (wire.BadTag at) = errors.Wire (wire.BadTag at)
 refusal_of (wire.BadVarint at) = errors.Wire (wire.BadVarint at)
 refusal_of (wire.Group at) = errors.Wire (wire.Group at)
 
--- what a refusal of the code says of what reading gives: want of memory says nothing
+-- want of memory
+abbrev pub wants_memory : DigestError → Bool
+wants_memory errors.OutOfMemory = true
+wants_memory _ = false
+
+-- what a refusal says of what reading gives: want of memory says nothing
 abbrev pub Fails : {Y : Type 0} → DigestError → Result Y DigestError → Type 0
-Fails errors.OutOfMemory read = Unit {0}
-Fails (errors.Wire e) read = read ≡ Err (errors.Wire e)
-Fails errors.BadHash read = read ≡ Err errors.BadHash
-Fails errors.NegativeSize read = read ≡ Err errors.NegativeSize
-Fails errors.BadSize read = read ≡ Err errors.BadSize
+Fails e read = FailsBut wants_memory e read
 
--- What a function of the code returned, seen by view, is what reading gives, unless memory ran out.
+-- what a function returned, seen by view, is what reading gives, unless memory ran out
 abbrev pub Gives : {X Y : Type 0} → (X → Y) → Result X DigestError → Result Y DigestError → Type 0
-Gives view (Ok x) read = read ≡ Ok (view x)
-Gives view (Err e) read = Fails e read
+Gives view result read = GivesBut wants_memory view result read
 
--- the hash that a text of 64 digits of lower-case hex stands for
+-- the hash that a text of 64 digits of lower-case hex spells
 unfoldable pub hash_of : List ℕ → Option (List ℕ)
 hash_of text = if length text == 64 then unhex_of text else None
 
--- a digest of a hash that was read or not, and of a size
+-- the digest of a hash, if there is one, and of a size
 abbrev pub made_of : Option (List ℕ) → ℕ → Result HashAndSize DigestError
 made_of None size = Err errors.BadHash
 made_of (Some hash) size = if nat_lt size (2 ^ 63) then Ok (record { hash = hash; size = size }) else Err errors.NegativeSize
 
--- what the fields mean: field 1 is the hash as text, field 2 the size as int64; an absent one is empty or 0
+-- what the fields mean: field 1 is the hash as text, field 2 the size as int64; if one is missing, it is empty or 0
 abbrev pub meant_by : Result (List WireField) WireError → Result HashAndSize DigestError
 meant_by (Err e) = Err (refusal_of e)
 meant_by (Ok fs) = made_of (hash_of (unwrap_or (last_of (contents_of 1 fs)) [])) (unwrap_or (last_of (ints 2 fs)) 0)

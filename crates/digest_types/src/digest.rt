@@ -8,7 +8,7 @@ use sha2::Sha256;
 use std::alloc::Global;
 use std::marker::Model;
 
-/// The name of a blob: the SHA-256 hash of its bytes, and how many they are, at most 2^63 - 1.
+/// The name of a blob: the SHA-256 hash of its bytes, and their number, at most 2^63 - 1.
 /// Digests are ordered by hash, then by size.
 #[derive(Clone, Copy, Debug, PartialEq, Eq, PartialOrd, Ord, Hash)]
 pub struct Digest {
@@ -16,7 +16,7 @@ pub struct Digest {
     pub size: u64,
 }
 
-/// Digests, seen as the list of them.
+/// A list of digests.
 pub type Digests = Listed<Digest>;
 
 impl Model for Digest {
@@ -33,7 +33,7 @@ impl Model for Digest {
 }
 
 impl Digest {
-    /// The digest of some bytes. It takes no memory.
+    /// The digest of the bytes. It takes no memory.
     #[tactic(auto, unfolding(crate::specs::Digest::digest_of))]
     pub fn of(bytes: &[u8]) -> Digest
         requires { length bytes.now ≤ 2 ^ 60 }
@@ -46,7 +46,7 @@ impl Digest {
         }
     }
 
-    /// The digest of no bytes. It takes no memory.
+    /// The digest of the empty blob. It takes no memory.
     pub fn empty() -> Digest
         ensures value { result ≡ digest_of [] }
         ensures is { IsDigest result }

@@ -1,4 +1,4 @@
-//! Why bytes are no digest.
+//! Why a message or a text is refused as a digest.
 
 ghost use Rattle.std.specs.Prelude.{◌≡◌};
 ghost use Rattle.digest_types.specs.Reading.{refusal_of};
@@ -7,16 +7,16 @@ ghost use Rattle.digest_types.specs.declared.error.DigestError.TheVariants.{OutO
 use proto_wire::{OutOfMemory, WireError};
 use std::alloc::{AllocError, AllocFailed};
 
-/// The first fault of a digest's message or text, in this order.
+/// The first fault of a digest's message or text. They are looked for in the order of the variants.
 #[derive(Clone, Copy, Debug, PartialEq, Eq)]
 pub enum DigestError {
-    /// The bytes are no row of fields.
+    /// The message is malformed.
     Wire(WireError),
     /// The hash isn't 64 digits of lower-case hex.
     BadHash,
-    /// The size is below 0.
+    /// The size in a message is negative.
     NegativeSize,
-    /// No size follows the hash of a text, or it is no decimal number of at most 2^63 - 1 without sign and leading zero.
+    /// No size follows the hash in a text, or it isn't a decimal number of at most 2^63 - 1 without sign and leading zeros.
     BadSize,
     OutOfMemory,
 }

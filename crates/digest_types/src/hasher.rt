@@ -1,21 +1,24 @@
-//! `Hasher`.
+//! `Hasher`. No call takes memory.
 
-ghost use Rattle.std.specs.Prelude.{◌≡◌, ◌≤◌, ◌+◌, ◌^◌, ◌++◌, ℕ, List, [], length};
-ghost use Rattle.digest_types.specs.Digest.{digest_of, IsDigest};
-ghost use Rattle.digest_types.specs.Hasher.{Holds, added_len};
+ghost use Rattle.std.specs.Prelude.{◌≤◌, ◌^◌};
 
 use crate::digest::Digest;
 use sha2::{Digest as _, Sha256};
 
-/// Makes a digest of bytes that come piece by piece, at most 2^60 in all. It takes no memory.
+/// Makes a digest of bytes that come piece by piece, at most 2^60 bytes in all.
 #[derive(Drop)]
 pub struct Hasher {
     inner: Sha256,
     size: u64,
+    ghost bounded: { size ≤ 2 ^ 60 },
 }
 
 impl Hasher {
-    /// Nothing was added yet.
+    ghost use Rattle.std.specs.Prelude.{◌≡◌, ◌≤◌, ◌+◌, ◌^◌, ◌++◌, ℕ, List, [], length};
+    ghost use Rattle.digest_types.specs.Digest.{digest_of, IsDigest};
+    ghost use Rattle.digest_types.specs.Hasher.{Holds, added_len};
+
+    /// A hasher of no bytes.
     pub fn new() -> Hasher
         ensures { Holds result [] }
     {
@@ -34,10 +37,9 @@ impl Hasher {
         self.size += bytes.len() as u64;
     }
 
-    /// The digest of what was added so far. It takes no memory.
+    /// The digest of what was added so far.
     #[tactic(auto, unfolding(crate::specs::Digest::digest_of))]
     pub fn so_far(&self) -> Digest
-        requires { added_len self.now ≤ 2 ^ 60 }
         ensures value { (bytes : List ℕ) → Holds self.now bytes → result ≡ digest_of bytes }
         ensures is { IsDigest result }
     {
@@ -51,7 +53,6 @@ impl Hasher {
     /// The digest of all that was added.
     #[tactic(auto, unfolding(crate::specs::Digest::digest_of))]
     pub fn finish(self) -> Digest
-        requires { added_len self ≤ 2 ^ 60 }
         ensures value { (bytes : List ℕ) → Holds self bytes → result ≡ digest_of bytes }
         ensures is { IsDigest result }
     {

@@ -1,5 +1,5 @@
 //! Digests: a blob's name is its SHA-256 hash (FIPS 180-4) and its length, as in the Remote Execution API v2.
-//! It makes them from bytes, reads and writes their message, and prints them. It stores nothing.
+//! It makes them from bytes, reads and writes their messages, and prints and parses their texts.
 #![tactic(auto)]
 
 mod digest;

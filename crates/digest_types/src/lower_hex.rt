@@ -17,7 +17,7 @@ fn is_lower(text: &[u8]) -> bool
         .all(|c| b'0' <= *c && *c <= b'9' || b'a' <= *c && *c <= b'f')
 }
 
-/// The bytes whose lower-case hex this is, or None where it isn't any's.
+/// The bytes that the text spells in lower-case hex, or None if it is malformed.
 #[tactic(auto, unfolding(crate::specs::Hex::unhex_of))]
 pub fn unhex(alloc: Global, text: &[u8]) -> Result<Option<Vec<u8>>, OutOfMemory>
     ensures { IfOk result (λ o. option_map (λ v. v.items) o ≡ unhex_of text.now) }
@@ -32,7 +32,7 @@ pub fn unhex(alloc: Global, text: &[u8]) -> Result<Option<Vec<u8>>, OutOfMemory>
     }
 }
 
-/// The hash whose lower-case hex this is. It takes no memory.
+/// The hash that a text of 64 digits of lower-case hex spells. It takes no memory.
 #[tactic(auto, unfolding(crate::specs::Hex::unhex_of, crate::specs::Reading::hash_of))]
 pub(crate) fn hash_in(text: &[u8]) -> Option<[u8; 32]>
     ensures { result ≡ hash_of text.now }

@@ -40,11 +40,11 @@ impl Digest {
         Ok(Digest { hash, size })
     }
 
-    /// The canonical content of its message.
+    /// The canonical content of its Digest message.
     pub fn write(&self, alloc: Global) -> Result<Bytes, OutOfMemory>
         ensures value { IfOk result (λ b. b ≡ spelled self.now) }
         ensures is { IsDigest self.now }
-        // What is written is read.
+        // The written message is read as this digest.
         ensures again { IfOk result (λ b. digest_in b ≡ Ok self.now) }
     {
         let mut out = Writer::new(alloc);

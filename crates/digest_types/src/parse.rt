@@ -1,27 +1,26 @@
-//! The text of a digest, read.
+//! Reading the text of a digest. No call takes memory.
 
 ghost use Rattle.std.specs.Prelude.{◌≡◌, IfOk};
 ghost use Rattle.std.specs.List.{list_all};
 ghost use Rattle.std.specs.Option.{option_map};
 ghost use Rattle.digest_types.specs.Digest.{IsDigest, printed};
-ghost use Rattle.digest_types.specs.Reading.{Gives};
 ghost use Rattle.digest_types.specs.Parsing.{before_slash, after_slash, is_digit, is_decimal, size_of, parsed};
 
 use crate::digest::Digest;
 use crate::error::DigestError;
 use crate::lower_hex::hash_in;
 
-/// The largest size of a blob.
+/// The largest size of a blob, 2^63 - 1 bytes.
 const MAX_SIZE: u64 = 0x7fff_ffff_ffff_ffff;
 
 impl Digest {
-    /// The digest that `print` writes so. The hash is what stands before the first slash, or the whole text
-    /// where there is none. It takes no memory.
+    /// The digest that `print` writes as this text. The hash is what stands before the first slash, or the whole
+    /// text if it has none.
     #[tactic(auto, unfolding(crate::specs::Parsing::parsed))]
     pub fn parse(text: &str) -> Result<Digest, DigestError>
-        ensures value { Gives (λ d. d) result (parsed text.now) }
+        ensures value { result ≡ parsed text.now }
         ensures is { IfOk result IsDigest }
-        // What is parsed was printed so.
+        // Only the text that `print` writes is taken.
         ensures printed { IfOk result (λ d. printed d ≡ text.now) }
     {
         let (hash, size) = parts(text);
@@ -38,7 +37,7 @@ impl Digest {
     }
 }
 
-/// What stands before the first slash, or the whole text, and what follows the slash.
+/// What stands before the first slash, or the whole text if it has none, and what follows the slash.
 fn parts(text: &str) -> (&str, Option<&str>)
     ensures hash { result.0.now ≡ before_slash text.now }
     ensures size { option_map (λ t. t.now) result.1 ≡ after_slash text.now }
@@ -49,7 +48,7 @@ fn parts(text: &str) -> (&str, Option<&str>)
     }
 }
 
-/// The number of a decimal text of at most 2^63 - 1 without sign and leading zero.
+/// The number of at most 2^63 - 1 that a decimal text without sign and leading zeros stands for.
 #[tactic(auto, unfolding(crate::specs::Parsing::size_of))]
 fn size_in(text: &str) -> Option<u64>
     ensures { result ≡ size_of text.now }

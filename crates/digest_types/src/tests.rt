@@ -11,7 +11,7 @@ const EMPTY: &[u8] = b"e3b0c44298fc1c149afbf4c8996fb92427ae41e4649b934ca495991b7
 const MESSAGE: &[u8] =
     b"\x0a\x40ba7816bf8f01cfea414140de5dae2223b00361a396177a9cb410ff61f20015ad\x10\x03";
 
-/// The message of the digest of no bytes, which leaves the size out.
+/// The message of the empty blob's digest, which leaves the size out.
 const EMPTY_MESSAGE: &[u8] =
     b"\x0a\x40e3b0c44298fc1c149afbf4c8996fb92427ae41e4649b934ca495991b7852b855";
 
@@ -43,7 +43,7 @@ fn a_digest_is_the_hash_and_the_size(rt: HostRuntime) -> Result<(), Fail> {
     Ok(())
 }
 
-// A message of these bytes one after the other.
+/// A message made of the parts, one after the other.
 fn message_of(alloc: Global, parts: [&[u8]; 4]) -> Result<Vec<u8>, Fail> {
     let mut message = Vec::new(alloc);
     for part in parts {
@@ -174,7 +174,7 @@ fn a_text_is_parsed_or_refused(rt: HostRuntime) -> Result<(), Fail> {
         (hash, "/3\n", Err(DigestError::BadSize)),
         (hash, "/9223372036854775808", Err(DigestError::BadSize)),
         (hash, "/99999999999999999999999", Err(DigestError::BadSize)),
-        // The hash is what stands before the first slash, and it is looked at first.
+        // The hash is what stands before the first slash, and it is checked first.
         (upper, "/3", Err(DigestError::BadHash)),
         (upper, "/03", Err(DigestError::BadHash)),
         (short, "/3", Err(DigestError::BadHash)),

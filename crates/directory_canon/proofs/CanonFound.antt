@@ -4,6 +4,7 @@ use Rattle.std.proofs.lemmas.List.Elements.{All-from_recursion}
 use Rattle.proto_wire.specs.declared.fault.WireError.{WireError}
 use Rattle.proto_wire.specs.Field.{WireField}
 use Rattle.proto_wire.specs.Reading.{IsBytes, fields_of}
+use Rattle.proto_wire.proofs.Steps.{bind_ok, passed, ok_is}
 use Rattle.proto_wire.proofs.WireLaws.{wire_found}
 use Rattle.digest_types.proofs.ReadDigest.{digest_in-is}
 use Rattle.directory_canon.specs.declared.error.DirError.TheVariants as errors
@@ -13,7 +14,6 @@ use Rattle.directory_canon.specs.Canon.{max_len, Canon, IsDirectory}
 use Rattle.directory_canon.specs.Reading.{Entry, split, entries_in, is_twice, unless_twice, canon_of}
 use Rattle.directory_canon.proofs.CanonReadOrder.{ascending_from_chain}
 use Rattle.directory_canon.proofs.CanonReadTwice.{nodes_of}
-use Rattle.directory_canon.proofs.CanonFoundSteps.{bind_ok, passed, ok_is}
 use Rattle.directory_canon.proofs.CanonFoundNode.{ReadsDigests}
 use Rattle.directory_canon.proofs.CanonFoundEntries.{Found, entries_found}
 use Rattle.directory_canon.proofs.CanonFoundOrder.{lists_found, list_found, names_apart}

@@ -7,8 +7,9 @@ use Rattle.proto_wire.specs.declared.fault.WireError.{WireError}
 use Rattle.proto_wire.specs.Field.{WireField}
 use Rattle.proto_wire.specs.Wire.{IsSpelling, Wire}
 use Rattle.proto_wire.specs.Reading.{field_at}
-use Rattle.proto_wire.proofs.Steps as wire
+use Rattle.proto_wire.proofs.Steps.{bind_ok, held_ok, passed, chosen, done, ok_is}
 use Rattle.proto_wire.proofs.Again.{field_again}
+use Rattle.directory_canon.specs.declared.error.DirError.{DirError}
 use Rattle.directory_canon.specs.declared.error.DirError.TheVariants as errors
 use Rattle.directory_canon.specs.declared.node.Node.{Node}
 use Rattle.directory_canon.specs.Node.{number_of, name_of, IsNode}
@@ -18,7 +19,6 @@ use Rattle.directory_canon.proofs.CanonReadOrder.{MayFollow, Chain, node_cmp-nam
 use Rattle.directory_canon.proofs.CanonReadNode.{Short, field_of}
 use Rattle.directory_canon.proofs.CanonReadEntries.{node-spelling, short_content}
 use Rattle.directory_canon.proofs.CanonReadTwice.{nodes_of}
-use Rattle.directory_canon.proofs.CanonFoundSteps.{bind_ok, guard_ok, passed, chosen, done, ok_is}
 use Rattle.directory_canon.proofs.CanonFoundNode.{ReadsDigests, node_found}
 
 -- ---- the spelling
@@ -27,8 +27,8 @@ spelled_found : (whole : List ℕ) (f : WireField) (node : Node) → spelled_in 
 unfolding spelled_in
 spelled_found whole f node e =
     let p = bind_ok (node_in f) _ node e in
-    let g = guard_ok (starts_with nat_eq (drop f.at whole) (node_spelled p.0)) (errors.NotCanonical f.at) p.0 node p.2 in
-    (p.1 ∙ ap done g.1, subst (λ (n : Node). starts_with nat_eq (drop f.at whole) (node_spelled n) ≡ true) g.1 g.0)
+    let g = held_ok (starts_with nat_eq (drop f.at whole) (node_spelled p.0)) (errors.NotCanonical f.at) p.0 node p.2 in
+    (p.1 ∙ ap (done DirError) g.1, subst (λ (n : Node). starts_with nat_eq (drop f.at whole) (node_spelled n) ≡ true) g.1 g.0)
 
 starts_found : (text a : List ℕ) → starts_with nat_eq text a ≡ true → text ≡ a ++ drop (length a) text
 starts_found text a h =
@@ -36,7 +36,7 @@ starts_found text a h =
     sym (ap (λ (x : List ℕ). x ++ drop (length a) text) same ∙ take-append-drop (length a) text)
 
 two_reads : (r : Result (WireField × List ℕ) WireError) (f g : WireField) (x y : List ℕ) → r ≡ Ok (f, x) → r ≡ Ok (g, y) → x ≡ y
-two_reads r f g x y left right = ap (λ (p : WireField × List ℕ). p.1) (wire.ok_is (f, x) (g, y) (sym left ∙ right))
+two_reads r f g x y left right = ap (λ (p : WireField × List ℕ). p.1) (ok_is (f, x) (g, y) (sym left ∙ right))
 
 -- a field has one rest
 one_rest : (at : ℕ) (text first rest tail : List ℕ) (f : WireField) (node : Node) → IsSpelling first f → text ≡ first ++ rest → text ≡ node_spelled node ++ tail → Short (content_of node) → rest ≡ tail
@@ -106,7 +106,7 @@ entries_found read whole before front text (f ∷ fs) all parts short w e =
     let others = p3.0 in
     let rest = w.1 in
     let follows = after_found before f.at p1.0 node p2.1 in
-    let here = spelled_found whole f node (p1.1 ∙ ap done follows.0) in
+    let here = spelled_found whole f node (p1.1 ∙ ap (done DirError) follows.0) in
     let split = split_found whole front text w.0 rest f node parts short w.2 w.3 w.4 here.1 in
     let parts_on : whole ≡ (front ++ node_spelled node) ++ rest = parts ∙ ap (λ (x : List ℕ). front ++ x) split ∙ sym (append_assoc front (node_spelled node) rest) in
     let wire_on = subst (λ (at : ℕ). Wire at rest fs) (next_place front text w.0 (node_spelled node) rest w.4 split) w.5 in

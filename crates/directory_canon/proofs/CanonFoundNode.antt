@@ -2,6 +2,7 @@
 use Rattle.std.proofs.Common.{◌≡◌, ℕ, true, eqb, inl, inr, List, Option, Some, None, Result, Ok, Err, subst}
 use Rattle.proto_wire.specs.Field.{WireField, WireValue, int, fixed64, bytes, fixed32, contents_of, joined_of}
 use Rattle.proto_wire.specs.Reading.{fields_of}
+use Rattle.proto_wire.proofs.Steps.{bind_ok, held_ok, passed, chosen, ok_is}
 use Rattle.digest_types.specs.Name.{HashAndSize}
 use Rattle.digest_types.specs.Digest.{IsDigest}
 use Rattle.digest_types.specs.declared.error.DigestError.{DigestError}
@@ -11,7 +12,6 @@ use Rattle.directory_canon.specs.declared.error.DirError.TheVariants as errors
 use Rattle.directory_canon.specs.declared.node.Node.{Node}
 use Rattle.directory_canon.specs.Node.{is_name, is_target, IsNode}
 use Rattle.directory_canon.specs.Reading.{split, without, content_at, name_in, target_in, digest_or, digest_by, digest_of, file_in, directory_in, symlink_in, node_by, node_in}
-use Rattle.directory_canon.proofs.CanonFoundSteps.{bind_ok, guard_ok, passed, chosen, ok_is}
 
 -- ---- digests
 
@@ -34,12 +34,12 @@ digest_found read at fs d e = digest_by-found read at (joined_of (contents_of 2 
 
 name_found : (at : ℕ) (fs : List WireField) (name : List ℕ) → name_in at fs ≡ Ok name → is_name name ≡ true
 name_found at fs name e =
-    let parts = guard_ok (is_name (content_at 1 fs)) (errors.BadName at) (content_at 1 fs) name e in
+    let parts = held_ok (is_name (content_at 1 fs)) (errors.BadName at) (content_at 1 fs) name e in
     subst (λ (b : List ℕ). is_name b ≡ true) parts.1 parts.0
 
 target_found : (at : ℕ) (fs : List WireField) (target : List ℕ) → target_in at fs ≡ Ok target → is_target target ≡ true
 target_found at fs target e =
-    let parts = guard_ok (is_target (content_at 2 fs)) (errors.BadTarget at) (content_at 2 fs) target e in
+    let parts = held_ok (is_target (content_at 2 fs)) (errors.BadTarget at) (content_at 2 fs) target e in
     subst (λ (b : List ℕ). is_target b ≡ true) parts.1 parts.0
 
 -- ---- nodes

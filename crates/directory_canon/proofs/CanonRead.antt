@@ -1,8 +1,8 @@
 -- The canonical form of a Directory is read as that Directory.
-use Rattle.std.proofs.Common.{◌≡◌, ◌↔◌, ℕ, false, ltb, List, [], Result, Ok, length, AllPairs, None, refl, sym, ap, ◌∙◌, subst, le-ltb, arith}
+use Rattle.std.proofs.Common.{◌≡◌, ◌↔◌, ℕ, false, ltb, List, [], Ok, length, AllPairs, None, refl, sym, ap, ◌∙◌, subst, le-ltb, arith}
 use Rattle.std.proofs.lemmas.List.Elements.{recursion_from_All}
+use Rattle.proto_wire.proofs.Steps.{ok_is}
 use Rattle.proto_wire.proofs.WireLaws.{wire_read}
-use Rattle.directory_canon.specs.declared.error.DirError.{DirError}
 use Rattle.directory_canon.specs.declared.node.Node.{Node}
 use Rattle.directory_canon.specs.Node.{IsNode}
 use Rattle.directory_canon.specs.Canon.{max_len, Canon, IsDirectory, spelled}
@@ -24,13 +24,7 @@ directory_read dir is =
 pub canon_read : (whole : List ℕ) (dir : List Node) → Canon dir whole → canon_of whole ≡ Ok dir
 canon_read whole dir canon = ap canon_of canon.1 ∙ directory_read dir canon.0
 
-abbrev done : List Node → Result (List Node) DirError
-done dir = Ok dir
-
-same_done : (a b : List Node) → done a ≡ done b → a ≡ b
-same_done a b e = cc
-
 -- each Directory has one canonical form, and no two share one
 pub canon_unique : (a b : List Node) (x y : List ℕ) → Canon a x → Canon b y → (a ≡ b) ↔ (x ≡ y)
 canon_unique a b x y left right =
-    (λ e. left.1 ∙ ap spelled e ∙ sym right.1, λ e. same_done a b (sym (canon_read x a left) ∙ ap canon_of e ∙ canon_read y b right))
+    (λ e. left.1 ∙ ap spelled e ∙ sym right.1, λ e. ok_is a b (sym (canon_read x a left) ∙ ap canon_of e ∙ canon_read y b right))

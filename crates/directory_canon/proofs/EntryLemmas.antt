@@ -9,8 +9,7 @@ use Rattle.directory_canon.specs.Reading.{content_at, name_in, target_in}
 use Rattle.directory_canon.specs.Node.{is_name, is_target}
 
 -- text is UTF-8
-pub is_text : (bytes : List ℕ) → IsUtf8 bytes → is_utf8 bytes ≡ true
-is_text bytes h = is_utf8-from_IsUtf8 bytes h
+pub ruleset texts = (is_utf8-from_IsUtf8)
 
 told : (b : Bool) → (b ≡ true → ⊥) → b ≡ false
 told true h = absurd (h refl)

@@ -1,30 +1,18 @@
 -- Reading nodes one after the other, as a loop does.
-use Rattle.std.proofs.Common.{◌≡◌, ℕ, ◌+◌, ◌-◌, ◌<◌, ◌≤◌, List, [], ◌∷◌, ◌++◌, length, map, get_or, drop, Bor, Option, Some, None, Result, Ok, Err, refl, sym, ap, ◌∙◌, append_assoc, add-one, drop-cons, arith}
+use Rattle.std.proofs.Common.{◌≡◌, ℕ, ◌+◌, ◌-◌, ◌<◌, ◌≤◌, List, [], ◌∷◌, ◌++◌, length, map, get_or, drop, Bor, Option, Some, None, Result, Ok, Err, refl, sym, ap, ◌∙◌, add-one, drop-cons, arith}
 use Rattle.std.specs.Option.{option_copied}
 use Rattle.std.specs.Prelude.{slice_get}
 use Rattle.std.proofs.lemmas.List.{append-nil, drop_all, get_or-map, length-map, map_push, get_or_at, length_push}
 use Rattle.std.proofs.lemmas.Option.{slice_get-get_or}
 use Rattle.proto_wire.specs.declared.field.Field.{Field}
 use Rattle.proto_wire.specs.Field.{WireField, field_view}
+use Rattle.proto_wire.specs.Steps.{◌>>=◌, with_front}
+use Rattle.proto_wire.proofs.Steps.{fails_along, regroup, same}
 use Rattle.directory_canon.specs.declared.node.Node.{Node}
 use Rattle.directory_canon.specs.declared.borrowed.Placed.{Placed}
 use Rattle.directory_canon.specs.declared.error.DirError.{DirError}
-use Rattle.directory_canon.specs.declared.error.DirError.TheVariants as errors
-use Rattle.directory_canon.specs.Reading.{◌>>=◌, Fails, Entry, spelled_in, after, entries_in}
+use Rattle.directory_canon.specs.Reading.{wants_memory, Fails, Entry, spelled_in, after, entries_in}
 use Rattle.directory_canon.specs.Views.{node_view, entry_view, before_view, entry_after}
-
--- a refusal goes through to what is read of it
-pub fails_on : {X Y : Type 0} (e : DirError) (read : Result X DirError) (total : Result Y DirError) → ((d : DirError) → read ≡ Err d → total ≡ Err d) → Fails e read → Fails e total
-fails_on errors.OutOfMemory read total h f = tt
-fails_on errors.TooLong read total h f = h errors.TooLong f
-fails_on (errors.Wire e) read total h f = h (errors.Wire e) f
-fails_on (errors.NotCanonical at) read total h f = h (errors.NotCanonical at) f
-fails_on (errors.HasProperties at) read total h f = h (errors.HasProperties at) f
-fails_on (errors.BadName at) read total h f = h (errors.BadName at) f
-fails_on (errors.BadTarget at) read total h f = h (errors.BadTarget at) f
-fails_on (errors.BadDigest at) read total h f = h (errors.BadDigest at) f
-fails_on (errors.Twice at) read total h f = h (errors.Twice at) f
-fails_on (errors.Unsorted at) read total h f = h (errors.Unsorted at) f
 
 -- ---- the node before
 
@@ -68,18 +56,6 @@ opens whole before f fs = by_spelled f.at (spelled_in whole f) (after before f.a
 
 -- ---- the loop
 
--- what was read before, and what is still read
-abbrev pub with_front : List Entry → Result (List Entry) DirError → Result (List Entry) DirError
-with_front front read = read >>= λ es. Ok (front ++ es)
-
-regroup : (front : List Entry) (e : Entry) (read : Result (List Entry) DirError) → with_front front (read >>= λ es. Ok (e ∷ es)) ≡ with_front (front ++ e ∷ []) read
-regroup front e (Ok es) = ap (λ (xs : List Entry). Ok xs) (sym (append_assoc front (e ∷ []) es))
-regroup front e (Err d) = refl
-
-same : (read : Result (List Entry) DirError) → with_front [] read ≡ read
-same (Ok es) = refl
-same (Err d) = refl
-
 pub starts : (whole : List ℕ) (fs : List WireField) → with_front [] (entries_in whole None fs) ≡ entries_in whole None fs
 starts whole fs = same (entries_in whole None fs)
 
@@ -117,8 +93,8 @@ goes_on whole items fs i d next total lt h so_far =
 pub ends : (whole : List ℕ) (items : List Placed) (fs : List Field) (i : ℕ) (d : Field) (e : DirError) (total : Result (List Entry) DirError) → i < length fs
     → Fails e (entry_after whole (last_before items) (field_view (get_or fs i d))) → rest_of whole items fs i ≡ total → Fails e total
 ends whole items fs i d e total lt fails so_far =
-    fails_on e (entry_after whole (last_before items) (field_view (get_or fs i d))) total
-    (λ (x : DirError) (h : entry_after whole (last_before items) (field_view (get_or fs i d)) ≡ Err x).
+    fails_along wants_memory e (entry_after whole (last_before items) (field_view (get_or fs i d))) total
+    (λ (h : entry_after whole (last_before items) (field_view (get_or fs i d)) ≡ Err e).
     sym so_far ∙ first whole items fs i d lt ∙ ap (λ (r : Result Entry DirError). with_front (map entry_view items) (r >>= others_of whole (drop (i + 1) (map field_view fs)))) h)
     fails
 

@@ -3,7 +3,6 @@ pub mod CanonReadNode
 pub mod CanonReadEntries
 pub mod CanonReadTwice
 pub mod CanonRead
-pub mod CanonFoundSteps
 pub mod CanonFoundNode
 pub mod CanonFoundEntries
 pub mod CanonFoundOrder

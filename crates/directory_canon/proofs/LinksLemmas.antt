@@ -32,15 +32,7 @@ some_links bytes dir edges read is = ap (λ (es : List Edge). Some es) is ∙ sy
 
 refused : (e : DirError) (read : Result (List Node) DirError) → (e ≡ errors.OutOfMemory → ⊥) → Fails e read → None ≡ edges_by read
 refused errors.OutOfMemory read other f = absurd (other refl)
-refused errors.TooLong read other f = sym (ap edges_by f)
-refused (errors.Wire e) read other f = sym (ap edges_by f)
-refused (errors.NotCanonical at) read other f = sym (ap edges_by f)
-refused (errors.HasProperties at) read other f = sym (ap edges_by f)
-refused (errors.BadName at) read other f = sym (ap edges_by f)
-refused (errors.BadTarget at) read other f = sym (ap edges_by f)
-refused (errors.BadDigest at) read other f = sym (ap edges_by f)
-refused (errors.Twice at) read other f = sym (ap edges_by f)
-refused (errors.Unsorted at) read other f = sym (ap edges_by f)
+refused e read other f = sym (ap edges_by f)
 
 -- what is refused has none
 pub no_links : (bytes : List ℕ) (e : DirError) → (e ≡ errors.OutOfMemory → ⊥) → Fails e (canon_of bytes) → None ≡ links bytes

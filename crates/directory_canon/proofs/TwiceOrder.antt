@@ -1,5 +1,5 @@
 -- The nodes of a Directory that was read stand in their order.
-use Rattle.std.proofs.Common.{◌≡◌, ℕ, zero, suc, ◌<◌, cond, List, [], ◌∷◌, length, map, get_or, Option, Some, None, Result, Ok, Err, refl, sym, ap, subst, ◌∙◌, add-one, arith}
+use Rattle.std.proofs.Common.{◌≡◌, ℕ, zero, suc, ◌<◌, cond, List, [], ◌∷◌, length, map, get_or, Option, Some, None, Result, Ok, Err, sym, ap, subst, ◌∙◌, add-one, arith}
 use Rattle.std.specs.Prelude.{◌==◌, nat_lt}
 use Rattle.std.specs.Ordering.{nat_cmp, ordering_then, ordering_reverse, is_lt}
 use Rattle.std.specs.declared.cmp.Ordering.{Ordering}
@@ -7,19 +7,17 @@ use Rattle.std.specs.declared.cmp.Ordering.TheVariants.{Less, Equal, Greater}
 use Rattle.std.specs.Cmp.Lexicographic.{slice_cmp}
 use Rattle.std.proofs.lemmas.Bool.Decides.{nat_tests}
 use Rattle.proto_wire.specs.Field.{WireField}
+use Rattle.proto_wire.specs.Steps.{◌>>=◌}
+use Rattle.proto_wire.proofs.Steps.{bind_ok, ok_is}
 use Rattle.directory_canon.specs.declared.node.Node.{Node}
 use Rattle.directory_canon.specs.declared.borrowed.Placed.{Placed}
 use Rattle.directory_canon.specs.declared.error.DirError.{DirError}
 use Rattle.directory_canon.specs.declared.error.DirError.TheVariants as errors
 use Rattle.directory_canon.specs.Node.{number_of, name_of}
-use Rattle.directory_canon.specs.Reading.{◌>>=◌, Entry, by_order, after, spelled_in, entries_in}
+use Rattle.directory_canon.specs.Reading.{Entry, by_order, after, spelled_in, entries_in}
 use Rattle.directory_canon.specs.Views.{node_view, entry_view, entry_after, place_of, place_cmp, AreInOrder}
 use Rattle.directory_canon.proofs.EntryLoop.{opens, others_of}
 use Rattle.directory_canon.proofs.TwiceLemmas.{place_cmp_total}
-
-bind_ok : {A B : Type 0} (read : Result A DirError) (f : A → Result B DirError) (y : B) → (read >>= f) ≡ Ok y → (x : A) × ((read ≡ Ok x) × (f x ≡ Ok y))
-bind_ok (Ok x) f y e = (x, (refl, e))
-bind_ok (Err d) f y e = absurd cc
 
 -- the node may stand behind the one before, if there is one
 abbrev Behind : Option Node → Node → Type 0
@@ -55,13 +53,10 @@ after_less (Some before) at node out e = passes_less (number_of before) (number_
 behind : (whole : List ℕ) (before : Option Node) (f : WireField) (e : Entry) → entry_after whole before f ≡ Ok e → Behind before e.node
 behind whole before f e h =
     let one = bind_ok (spelled_in whole f) (λ s. after before f.at s >>= λ node. Ok (record { at = f.at; node = node })) e h in
-    let two = bind_ok (after before f.at one.0) (λ node. Ok (record { at = f.at; node = node })) e one.1.1 in
-    let same : e.node ≡ one.0 = sym (ap node_at two.1.1) ∙ after_as_is before f.at one.0 two.0 two.1.0 in
-    subst (Behind before) (sym same) (after_less before f.at one.0 two.0 two.1.0)
-  where
-    node_at : Result Entry DirError → Node
-    node_at (Ok x) = x.node
-    node_at (Err d) = e.node
+    let two = bind_ok (after before f.at one.0) (λ node. Ok (record { at = f.at; node = node })) e one.2 in
+    let made : record { at = f.at; node = two.0 } ≡ e = ok_is _ _ two.2 in
+    let same : e.node ≡ one.0 = sym (ap (λ (x : Entry). x.node) made) ∙ after_as_is before f.at one.0 two.0 two.1 in
+    subst (Behind before) (sym same) (after_less before f.at one.0 two.0 two.1)
 
 chain : (whole : List ℕ) (before : Option Node) (fs : List WireField) (es : List Entry) → entries_in whole before fs ≡ Ok es → Chain before es
 unfolding entries_in
@@ -70,9 +65,8 @@ chain whole before [] es h =
     subst (Chain before) none tt
 chain whole before (f ∷ fs) es h =
     let one = bind_ok (entry_after whole before f) (others_of whole fs) es (sym (opens whole before f fs) ∙ h) in
-    let two = bind_ok (entries_in whole (Some one.0.node) fs) (λ others. Ok (one.0 ∷ others)) es one.1.1 in
-    let same : one.0 ∷ two.0 ≡ es = cc in
-    subst (Chain before) same (behind whole before f one.0 one.1.0, chain whole (Some one.0.node) fs two.0 two.1.0)
+    let two = bind_ok (entries_in whole (Some one.0.node) fs) (λ others. Ok (one.0 ∷ others)) es one.2 in
+    subst (Chain before) (ok_is (one.0 ∷ two.0) es two.2) (behind whole before f one.0 one.1, chain whole (Some one.0.node) fs two.0 two.1)
 
 adjacent : (items : List Placed) (before : Option Node) → Chain before (map entry_view items) → (k : ℕ) (d : Placed) → suc k < length items → place_cmp (place_of (get_or items k d)) (place_of (get_or items (suc k) d)) ≡ Less
 adjacent [] before ch k d lt = absurd (omega arith)

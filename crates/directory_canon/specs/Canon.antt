@@ -10,11 +10,11 @@ use Rattle.directory_canon.specs.declared.node.Node.{Node}
 use Rattle.directory_canon.specs.declared.node.Node.TheVariants as nodes
 use Rattle.directory_canon.specs.Node.{number_of, name_of, IsNode}
 
--- how many bytes a Directory has at most
+-- the most bytes of a Directory's canonical form
 abbrev pub max_len : ℕ
 max_len = 4_194_304
 
--- The content of a node: field 1 is its name. A file has its digest in field 2 and, where it can be run, a 1 in field 4;
+-- The content of a node: field 1 is its name. A file has its digest in field 2 and, if it is executable, a 1 in field 4;
 -- a directory has its digest in field 2; a symlink has its target in field 2.
 abbrev pub content_of : Node → List ℕ
 content_of (nodes.File name digest exec) =
@@ -34,7 +34,7 @@ spelled dir = flat_map node_spelled dir
 abbrev pub list_of : ℕ → List Node → List Node
 list_of number dir = filter (λ node. number_of node == number) dir
 
--- the names of one of the three lists ascend, byte by byte
+-- the names of one of the three lists ascend, compared by their bytes
 abbrev pub Ascends : ℕ → List Node → Type 0
 Ascends number dir = IsStrictlySortedBy (slice_cmp nat_cmp) (map name_of (list_of number dir))
 

@@ -10,11 +10,11 @@ use Rattle.directory_canon.specs.Reading.{canon_of}
 abbrev pub edges_of : List Node → List Edge
 edges_of dir = filter_map edge_of dir
 
--- the links of a Directory that was read or not
+-- the links of what was read
 abbrev pub edges_by : Result (List Node) DirError → Option (List Edge)
 edges_by (Ok dir) = Some (edges_of dir)
 edges_by (Err e) = None
 
--- The links of a blob, where it is the canonical form of a Directory. Any other blob has none.
+-- The links of a blob, if it is the canonical form of a Directory. Any other blob has none.
 unfoldable pub links : List ℕ → Option (List Edge)
 links bytes = edges_by (canon_of bytes)

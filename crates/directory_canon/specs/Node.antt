@@ -39,7 +39,7 @@ IsNode (nodes.File name digest exec) = (is_name name ≡ true) × IsDigest diges
 IsNode (nodes.Dir name digest) = (is_name name ≡ true) × IsDigest digest
 IsNode (nodes.Link name target) = (is_name name ≡ true) × (is_target target ≡ true)
 
--- what a node links to: a file's or a folder's digest
+-- what a node links to: a file's or a directory's digest
 abbrev pub edge_of : Node → Option Edge
 edge_of (nodes.File name digest exec) = Some (record { kind = kinds.File; digest = digest })
 edge_of (nodes.Dir name digest) = Some (record { kind = kinds.Dir; digest = digest })

@@ -1,5 +1,5 @@
 -- Reading a Directory from its canonical bytes, with the first fault that is met.
-use Rattle.std.specs.Prelude.{◌≡◌, ◌==◌, ◌&&◌, not, nat_eq, nat_lt, unwrap_or, map, find, drop, ℕ, Bool, List, [], ◌∷◌, length, Option, Some, None, Result, Ok, Err, if◌then◌else◌}
+use Rattle.std.specs.Prelude.{◌==◌, ◌&&◌, not, nat_eq, nat_lt, unwrap_or, map, find, drop, ℕ, Bool, true, false, List, [], ◌∷◌, length, Option, Some, None, Result, Ok, Err, if◌then◌else◌}
 use Rattle.std.specs.Ordering.{nat_cmp}
 use Rattle.std.specs.declared.cmp.Ordering.{Ordering}
 use Rattle.std.specs.declared.cmp.Ordering.TheVariants.{Less, Equal, Greater}
@@ -9,6 +9,7 @@ use Rattle.proto_wire.specs.declared.fault.WireError.{WireError}
 use Rattle.proto_wire.specs.declared.fault.WireError.TheVariants as wire
 use Rattle.proto_wire.specs.Field.{WireValue, int, fixed64, bytes, fixed32, WireField, last_of, ints, contents_of, joined_of}
 use Rattle.proto_wire.specs.Reading.{fields_of}
+use Rattle.proto_wire.specs.Steps.{◌>>=◌, FailsBut, GivesBut}
 use Rattle.digest_types.specs.Name.{HashAndSize}
 use Rattle.digest_types.specs.Reading.{digest_in}
 use Rattle.digest_types.specs.declared.error.DigestError.{DigestError}
@@ -19,31 +20,20 @@ use Rattle.directory_canon.specs.declared.node.Node.TheVariants as nodes
 use Rattle.directory_canon.specs.Node.{number_of, name_of, is_name, is_target}
 use Rattle.directory_canon.specs.Canon.{max_len, node_spelled}
 
--- the next step, where the one before gave a value
-infixl 10 ◌>>=◌
-abbrev pub ◌>>=◌ : {A B : Type 0} → Result A DirError → (A → Result B DirError) → Result B DirError
-(Ok x) >>= f = f x
-(Err e) >>= f = Err e
+-- want of memory
+abbrev pub wants_memory : DirError → Bool
+wants_memory errors.OutOfMemory = true
+wants_memory _ = false
 
--- what a refusal of the code says of what reading gives: want of memory says nothing
+-- what a refusal says of what reading gives: want of memory says nothing
 abbrev pub Fails : {Y : Type 0} → DirError → Result Y DirError → Type 0
-Fails errors.OutOfMemory read = Unit {0}
-Fails errors.TooLong read = read ≡ Err errors.TooLong
-Fails (errors.Wire e) read = read ≡ Err (errors.Wire e)
-Fails (errors.NotCanonical at) read = read ≡ Err (errors.NotCanonical at)
-Fails (errors.HasProperties at) read = read ≡ Err (errors.HasProperties at)
-Fails (errors.BadName at) read = read ≡ Err (errors.BadName at)
-Fails (errors.BadTarget at) read = read ≡ Err (errors.BadTarget at)
-Fails (errors.BadDigest at) read = read ≡ Err (errors.BadDigest at)
-Fails (errors.Twice at) read = read ≡ Err (errors.Twice at)
-Fails (errors.Unsorted at) read = read ≡ Err (errors.Unsorted at)
+Fails e read = FailsBut wants_memory e read
 
--- What a function of the code returned, seen by view, is what reading gives, unless memory ran out.
+-- what a function returned, seen by view, is what reading gives, unless memory ran out
 abbrev pub Gives : {X Y : Type 0} → (X → Y) → Result X DirError → Result Y DirError → Type 0
-Gives view (Ok x) read = read ≡ Ok (view x)
-Gives view (Err e) read = Fails e read
+Gives view result read = GivesBut wants_memory view result read
 
--- bytes that are no row of fields
+-- the refusal of malformed bytes
 abbrev pub wire_fault : WireError → DirError
 wire_fault wire.OutOfMemory = errors.OutOfMemory
 wire_fault (wire.Truncated at) = errors.Wire (wire.Truncated at)
@@ -61,14 +51,14 @@ pub record Entry : Type 0 where
   pub at : ℕ
   pub node : Node
 
--- The node whose field begins at `at`. Its parts are looked at in this order: properties, which no canonical node has;
+-- The node whose field begins at `at`. Its parts are checked in this order: properties, which no canonical node has;
 -- the name; the target; the digest.
 
 -- there is no content with this number
 abbrev pub without : ℕ → ℕ → List WireField → Result (List WireField) DirError
 without number at fs = if length (contents_of number fs) == 0 then Ok fs else Err (errors.HasProperties at)
 
--- the last content of a number; an absent one is empty
+-- the last content with a number; empty if there is none
 abbrev pub content_at : ℕ → List WireField → List ℕ
 content_at number fs = unwrap_or (last_of (contents_of number fs)) []
 
@@ -78,12 +68,12 @@ name_in at fs = if is_name (content_at 1 fs) then Ok (content_at 1 fs) else Err 
 abbrev pub target_in : ℕ → List WireField → Result (List ℕ) DirError
 target_in at fs = if is_target (content_at 2 fs) then Ok (content_at 2 fs) else Err (errors.BadTarget at)
 
--- a digest that was read or not
+-- the digest that was read, or its refusal
 abbrev pub digest_or : ℕ → Result HashAndSize DigestError → Result HashAndSize DirError
 digest_or at (Ok d) = Ok d
 digest_or at (Err e) = Err (errors.BadDigest at)
 
--- a digest whose contents are these, or none
+-- the digest of a content, if there is one
 abbrev pub digest_by : ℕ → Option (List ℕ) → Result HashAndSize DirError
 digest_by at None = Err (errors.BadDigest at)
 digest_by at (Some b) = digest_or at (digest_in b)
@@ -117,7 +107,7 @@ symlink_in at content = do
   target ← target_in at fs
   Ok (nodes.Link name target)
 
--- Directory: 1 files, 2 directories, 3 symlinks; 5, node_properties, is told by its number alone, and any other field is
+-- Directory: 1 files, 2 directories, 3 symlinks; 5, node_properties, is refused by its number alone, and any other field is
 -- not canonical.
 abbrev pub node_by : ℕ → ℕ → WireValue → Result Node DirError
 node_by at number (int n) = Err (errors.NotCanonical at)
@@ -139,13 +129,13 @@ spelled_in whole f = do
   if starts_with nat_eq (drop f.at whole) (node_spelled node) then Ok node
       else Err (errors.NotCanonical f.at)
 
--- two names of one list, one after the other
+-- a node behind one of its list, by how their names compare
 abbrev pub by_order : ℕ → Ordering → Node → Result Node DirError
 by_order at Less node = Ok node
 by_order at Equal node = Err (errors.Twice at)
 by_order at Greater node = Err (errors.Unsorted at)
 
--- the node may follow the one before, if there is one
+-- a node behind the one before it, if there is one
 abbrev pub after : Option Node → ℕ → Node → Result Node DirError
 after None at node = Ok node
 after (Some before) at node =
@@ -153,7 +143,7 @@ after (Some before) at node =
     else if number_of node == number_of before then by_order at (slice_cmp nat_cmp (name_of before) (name_of node)) node
     else Ok node
 
--- the nodes of these fields, behind the node before them, if there is one
+-- the nodes of the fields, behind the node before them, if there is one
 unfoldable pub entries_in : List ℕ → Option Node → List WireField → Result (List Entry) DirError
 entries_in whole before [] = Ok []
 entries_in whole before (f ∷ fs) = do
@@ -162,17 +152,17 @@ entries_in whole before (f ∷ fs) = do
   others ← entries_in whole (Some node) fs
   Ok (record { at = f.at; node = node } ∷ others)
 
--- whether an earlier list has the name of this node
+-- whether the name of this node stands in an earlier list
 abbrev pub is_twice : List Entry → Entry → Bool
 is_twice all e =
     list_any (λ o. nat_lt (number_of o.node) (number_of e.node) && pointwise nat_eq (name_of o.node) (name_of e.node)) all
 
--- the first node whose name an earlier list has
+-- the nodes, unless the name of one stands in an earlier list
 abbrev pub unless_twice : Option Entry → List Entry → Result (List Node) DirError
 unless_twice None all = Ok (map (λ e. e.node) all)
 unless_twice (Some e) all = Err (errors.Twice e.at)
 
--- the Directory whose canonical bytes these are
+-- the Directory whose canonical form the bytes are
 unfoldable pub canon_of : List ℕ → Result (List Node) DirError
 canon_of whole =
     if nat_lt max_len (length whole) then Err errors.TooLong

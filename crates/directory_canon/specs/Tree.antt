@@ -6,22 +6,18 @@ use Rattle.std.specs.List.{flat_map}
 use Rattle.std.specs.List.Sorted.{IsStrictlySortedBy}
 use Rattle.std.specs.Cmp.Lexicographic.{slice_cmp}
 use Rattle.proto_wire.specs.Spelling.{bytes_field}
-use Rattle.digest_types.specs.Name.{HashAndSize}
+pub use Rattle.digest_types.specs.Digest.{digest_cmp}
 use Rattle.digest_types.specs.Digest as digests
 use Rattle.directory_canon.specs.declared.node.Node.{Node}
 use Rattle.directory_canon.specs.declared.tree.TreeMsg.{TreeMsg}
 use Rattle.directory_canon.specs.Canon.{spelled}
 
--- digests ascend by hash, then by size
-abbrev pub digest_cmp : HashAndSize → HashAndSize → Ordering
-digest_cmp a b = ordering_then (slice_cmp nat_cmp a.hash b.hash) (nat_cmp a.size b.size)
-
--- Directories ascend by the digests of their canonical bytes, and such of one digest, of which none are known, by their bytes.
+-- Directories ascend by the digests of their canonical bytes, and by these bytes if the digests are equal.
 abbrev pub tree_cmp : List Node → List Node → Ordering
 tree_cmp a b =
     ordering_then (digest_cmp (digests.digest_of (spelled a)) (digests.digest_of (spelled b))) (slice_cmp nat_cmp (spelled a) (spelled b))
 
--- The tree of a root and the Directories below it: the children are the distinct ones of those, ascending by digest.
+-- The tree of a root and the Directories below it: the children are these, each once, ascending by digest.
 pub record IsTree (top : List Node) (below : List (List Node)) (tree : TreeMsg) : Type 0 where
   pub root : tree.root ≡ top
   pub children : (dir : List Node) → Contains tree.children dir ↔ Contains below dir

@@ -1,4 +1,4 @@
--- Nodes of the code whose texts lie elsewhere, as plain nodes.
+-- Nodes of the code that borrow their texts, as plain nodes.
 use Rattle.std.specs.Prelude.{◌==◌, ◌&&◌, nat_eq, ℕ, Bool, List, Option, Some, None, Result, Ok}
 use Rattle.std.specs.Borrow.{Bor}
 use Rattle.std.specs.Ordering.{nat_cmp, ordering_then}
@@ -6,6 +6,7 @@ use Rattle.std.specs.declared.cmp.Ordering.{Ordering}
 use Rattle.std.specs.Cmp.Lexicographic.{slice_cmp, pointwise}
 use Rattle.std.specs.List.Sorted.{IsSortedByKey}
 use Rattle.proto_wire.specs.Field.{WireField}
+use Rattle.proto_wire.specs.Steps.{◌>>=◌}
 use Rattle.directory_canon.specs.declared.borrowed.NodeRef.{NodeRef}
 use Rattle.directory_canon.specs.declared.borrowed.NodeRef.TheVariants as refs
 use Rattle.directory_canon.specs.declared.borrowed.Placed.{Placed}
@@ -13,9 +14,9 @@ use Rattle.directory_canon.specs.declared.node.Node.{Node}
 use Rattle.directory_canon.specs.declared.node.Node.TheVariants as nodes
 use Rattle.directory_canon.specs.declared.error.DirError.{DirError}
 use Rattle.directory_canon.specs.Node.{number_of, name_of}
-use Rattle.directory_canon.specs.Reading.{◌>>=◌, Entry, spelled_in, after}
+use Rattle.directory_canon.specs.Reading.{Entry, spelled_in, after}
 
--- a node without where its texts lie
+-- a node without the places of its texts in memory
 abbrev pub node_view : NodeRef → Node
 node_view (refs.File name digest exec) = nodes.File name.now digest exec
 node_view (refs.Dir name digest) = nodes.Dir name.now digest

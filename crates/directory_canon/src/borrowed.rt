@@ -1,4 +1,4 @@
-//! Nodes whose texts lie elsewhere.
+//! Nodes that borrow their texts.
 
 ghost use Rattle.std.specs.Prelude.{◌≡◌, IfOk};
 ghost use Rattle.directory_canon.specs.Node.{number_of, name_of, edge_of};
@@ -9,7 +9,7 @@ use digest_types::Digest;
 use proto_wire::{Name, OutOfMemory, Text};
 use std::alloc::Global;
 
-/// A node whose name and target lie in the bytes that were read, or in another node.
+/// A node whose name and target are borrowed from the bytes that were read, or from another node.
 #[derive(Clone, Copy, Debug)]
 pub(crate) enum NodeRef<'a> {
     File {
@@ -27,7 +27,7 @@ pub(crate) enum NodeRef<'a> {
     },
 }
 
-/// A node, and where its first byte stands.
+/// A node, and the place of its first byte.
 #[derive(Clone, Copy, Debug)]
 pub(crate) struct Placed<'a> {
     pub(crate) at: usize,
@@ -55,7 +55,7 @@ impl<'a> NodeRef<'a> {
         }
     }
 
-    /// The number of its list: files 1, directories 2, symlinks 3.
+    /// The number of the list that it stands in: files 1, directories 2, symlinks 3.
     pub(crate) fn number(&self) -> u32
         ensures { result ≡ number_of (node_view self.now) }
     {
@@ -76,7 +76,7 @@ impl<'a> NodeRef<'a> {
         }
     }
 
-    /// What it links to.
+    /// What it links to; None for a symlink.
     pub(crate) fn edge(&self) -> Option<Edge>
         ensures { result ≡ edge_of (node_view self.now) }
     {

@@ -13,17 +13,17 @@ use proto_wire::Listed;
 use std::alloc::Global;
 use std::marker::Model;
 
-/// How many bytes the canonical form of a Directory has at most.
+/// The most bytes that the canonical form of a Directory has.
 pub(crate) const MAX_LEN: usize = 4_194_304;
 
 /// The nodes of a Directory in canonical order: files, directories, symlinks, each ascending by the bytes of the names.
-/// All are valid, no name stands twice, and the canonical form has at most 4,194,304 bytes.
+/// Each node is valid, no two have one name, and the canonical form has at most 4,194,304 bytes.
 #[derive(Debug, Drop)]
 pub struct Directory {
     nodes: Vec<Node>,
 }
 
-/// Directories, seen as the list of them.
+/// A list of Directories.
 pub type Dirs = Listed<Directory>;
 
 impl Model for Directory {
@@ -41,8 +41,9 @@ impl Model for Directory {
 impl Directory {
     ghost use Rattle.directory_canon.specs.Canon.{IsDirectory};
 
-    /// The Directory of these nodes, which may come in any order. The first of them that offends, or that repeats an
-    /// earlier name, is refused by its position: `BadName`, `BadTarget` or `Twice`; else the whole by `TooLong`.
+    /// The Directory of the nodes, which may come in any order. The first of them with a bad name, a bad target or
+    /// the name of an earlier one is refused with its position, from 0: `BadName`, `BadTarget` or `Twice`. If there
+    /// is none, a canonical form that is too long is refused: `TooLong`.
     pub fn new(alloc: Global, nodes: Vec<Node>) -> Result<Directory, DirError>
         ensures made { IfOk result (λ d. Made nodes.items d) }
         ensures refused { IfErr result (λ e. (e ≡ NoMemory) ⊎ (refusal nodes.items ≡ Some e)) }
@@ -68,7 +69,7 @@ impl Directory {
     }
 }
 
-// The nodes in canonical order, unless they make no Directory.
+// The nodes in canonical order, or why they make no Directory.
 #[tactic(auto, using(crate::proofs::MakeMade::made, crate::proofs::MakeMade::too_long, crate::proofs::MakeMade::offends))]
 fn canonical(alloc: Global, mut nodes: Vec<Node>) -> Result<Vec<Node>, DirError>
     ensures made { IfOk result (λ sorted. Made nodes.items sorted.items) }

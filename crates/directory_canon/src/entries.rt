@@ -1,4 +1,4 @@
-//! The nodes of a Directory, from its bytes.
+//! Reading the nodes of a Directory, one after the other.
 
 ghost use Rattle.std.specs.Prelude.{◌≡◌, map, None};
 ghost use Rattle.proto_wire.specs.Field.{field_view};
@@ -12,7 +12,7 @@ use proto_wire::Field;
 use std::alloc::Global;
 use std::cmp::Ordering;
 
-// The node may follow the one before, if there is one.
+// Refuses a node that may not follow the one before it, if there is one.
 fn after(before: Option<&Placed<'_>>, at: usize, node: &NodeRef<'_>) -> Result<(), DirError>
     ensures { Gives (λ _. node_view node.now) result (after (before_view before.entry) at (node_view node.now)) }
 {
@@ -43,7 +43,7 @@ fn entry_after<'a>(
     ensures { Gives entry_view result (entry_after whole.now (before_view before.entry) (field_view field.now)) }
 {
     let at = field.at;
-    // `?` isn't covered where the value holds a reference beside a digest.
+    // `?` gets no proof if the value holds a reference beside a digest.
     let node = match spelled_in(alloc, whole, field) {
         Ok(node) => node,
         Err(e) => return Err(e),
@@ -52,7 +52,7 @@ fn entry_after<'a>(
     Ok(Placed { at, node })
 }
 
-/// The nodes of these fields of the whole, each list in its order.
+/// The nodes that the fields of the whole spell, in canonical order.
 pub(crate) fn entries_in<'a>(
     alloc: Global,
     whole: &[u8],
@@ -62,7 +62,7 @@ pub(crate) fn entries_in<'a>(
 {
     let mut found = Vec::new(alloc);
     'fields: for field in fields {
-        // The same holds here, and after `push`, whose refusal gives the value back.
+        // Nor does it here, or for `push`, whose error gives the value back.
         let next = match entry_after(alloc, whole, found.last(), field) {
             Ok(next) => next,
             Err(e) => return Err(e),

@@ -1,4 +1,4 @@
-//! One node of a Directory, from its field.
+//! Reading one node of a Directory.
 
 ghost use Rattle.std.specs.Prelude.{◌≡◌, drop};
 ghost use Rattle.proto_wire.specs.Field.{field_view, value_view};
@@ -13,7 +13,7 @@ use digest_types::{Digest, DigestError};
 use proto_wire::{Field, Fields, Value, fields, joined, last_bytes, last_int, text};
 use std::alloc::Global;
 
-// The content that counts; an absent one is empty.
+// The last content with this number, which is the one that counts; empty if there is none.
 fn content_in<'a>(fields: &Fields<'a>, number: u32) -> &'a [u8]
     ensures { result.now ≡ content_at number fields.now }
 {
@@ -128,14 +128,14 @@ fn node_in<'a>(alloc: Global, field: &Field<'a>) -> Result<NodeRef<'a>, DirError
     node_by(alloc, field.at, field.number, &field.value)
 }
 
-// What stands from a place on; nothing where the place is past the end.
+// The bytes from a place on; none if it is past the end.
 fn rest_from(whole: &[u8], at: usize) -> &[u8]
     ensures { result.now ≡ drop at whole.now }
 {
     whole.get(at..).unwrap_or(&[])
 }
 
-/// The node of a field that stands in the whole, where it has its shortest spelling there.
+/// The node that a field of the whole spells, if that is the node's shortest spelling.
 #[tactic(auto, unfolding(crate::specs::Reading::spelled_in))]
 pub(crate) fn spelled_in<'a>(
     alloc: Global,
@@ -144,7 +144,7 @@ pub(crate) fn spelled_in<'a>(
 ) -> Result<NodeRef<'a>, DirError>
     ensures { Gives node_view result (spelled_in whole.now (field_view field.now)) }
 {
-    // `?` isn't covered where the value holds a reference beside a digest.
+    // `?` gets no proof if the value holds a reference beside a digest.
     let node = match node_in(alloc, field) {
         Ok(node) => node,
         Err(e) => return Err(e),

@@ -1,4 +1,4 @@
-//! Why there is no Directory.
+//! Why bytes or nodes are refused as a Directory.
 
 ghost use Rattle.std.specs.Prelude.{◌≡◌};
 ghost use Rattle.directory_canon.specs.declared.error.DirError.TheVariants.{OutOfMemory as NoMemory};
@@ -6,24 +6,24 @@ ghost use Rattle.directory_canon.specs.declared.error.DirError.TheVariants.{OutO
 use proto_wire::{OutOfMemory, WireError};
 use std::alloc::{AllocError, AllocFailed};
 
-/// The first fault. `at` is the first byte of the node that offends, or its position among the nodes given.
+/// The first fault. `at` is the place of the faulty node's first byte, or its position among the given nodes, from 0.
 #[derive(Clone, Copy, Debug, PartialEq, Eq)]
 pub enum DirError {
     /// The canonical form has more than 4,194,304 bytes.
     TooLong,
-    /// The bytes are no row of fields; or those of a node aren't, and then the place counts in the node.
+    /// The bytes are malformed, or a node's content is; then the place counts from the content's first byte.
     Wire(WireError),
-    /// No node of a Directory, not in its shortest spelling, or behind a node of a later list.
+    /// The field isn't a node of a Directory, isn't in its shortest spelling, or follows a node of a later list.
     NotCanonical { at: usize },
-    /// Node properties, which no canonical Directory has.
+    /// There are node properties, which no canonical Directory has.
     HasProperties { at: usize },
     /// The name isn't text of 1 to 255 bytes without slash and NUL, or is `.` or `..`.
     BadName { at: usize },
     /// The target isn't text of 1 to 4,095 bytes without NUL.
     BadTarget { at: usize },
-    /// The digest is absent, or is none.
+    /// The digest is missing or malformed.
     BadDigest { at: usize },
-    /// Another node has the name.
+    /// An earlier node has the same name.
     Twice { at: usize },
     /// The name is below the one before it in its list.
     Unsorted { at: usize },

@@ -1,4 +1,4 @@
-//! The first node that offends.
+//! The first faulty node.
 
 ghost use Rattle.std.specs.Prelude.{◌≡◌, ◌⊎◌, [], All, OnOk, IfErr, Some, None};
 ghost use Rattle.directory_canon.specs.Node.{IsNode};
@@ -13,7 +13,7 @@ use crate::valid::is_name;
 use std::alloc::Global;
 use std::collections::BTreeSet;
 
-// The first of the nodes that isn't valid or has the name of an earlier one is refused by its position.
+// Refuses the first node that isn't valid or has the name of an earlier one, with its position.
 pub(crate) fn refuse_first(alloc: Global, nodes: &[Node]) -> Result<(), DirError>
     ensures none { OnOk result (offence [] 0 nodes.now ≡ None) }
     ensures valid { OnOk result (All IsNode nodes.now) }

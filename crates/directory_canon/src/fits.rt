@@ -1,4 +1,4 @@
-//! Nodes that are valid, each by itself.
+//! Which nodes are valid.
 
 ghost use Rattle.std.specs.Prelude.{◌≡◌, ◌<◌, ℕ, length, slice_index, true};
 ghost use Rattle.digest_types.specs.Digest.{IsDigest};
@@ -9,7 +9,7 @@ use crate::node::Node;
 use crate::valid::is_target;
 use digest_types::Digest;
 
-// How many bytes there are; each is below 256.
+// The number of bytes, of which each is below 256.
 fn len_of_bytes(bytes: &[u8]) -> usize
     ensures len { result ≡ length bytes.now }
     ensures bytes { (i : ℕ) → slice_index bytes.now i < 256 }
@@ -17,7 +17,7 @@ fn len_of_bytes(bytes: &[u8]) -> usize
     bytes.len()
 }
 
-// What holds of any digest: 32 bytes of hash and a size below 2^63.
+// True of any digest: the hash has 32 bytes, and the size is below 2^63.
 fn is_digest(digest: &Digest) -> bool
     ensures yes { result ≡ true }
     ensures is { IsDigest digest.now }

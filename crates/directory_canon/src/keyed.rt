@@ -44,7 +44,7 @@ impl Keyed {
         Ok(Keyed { digest, bytes, dir })
     }
 
-    /// By digest, and where that is equal, by the bytes.
+    /// Compares by digest, and then by the bytes.
     pub(crate) fn order(&self, other: &Keyed) -> Ordering
         ensures { result ≡ tree_cmp self.now other.now }
     {

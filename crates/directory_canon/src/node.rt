@@ -6,7 +6,7 @@ use proto_wire::{Listed, Name, Text};
 /// A file, a directory or a symlink.
 #[derive(Debug, Drop)]
 pub enum Node {
-    /// A file with the digest of its bytes, and whether it can be run.
+    /// A file with the digest of its bytes, and whether it is executable.
     File {
         name: Name,
         digest: Digest,
@@ -38,5 +38,5 @@ pub struct Edge {
     pub digest: Digest,
 }
 
-/// Links, seen as the list of them.
+/// A list of links.
 pub type Edges = Listed<Edge>;

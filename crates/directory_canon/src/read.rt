@@ -1,4 +1,4 @@
-//! Directories from their canonical bytes.
+//! Reading Directories from their canonical bytes.
 
 ghost use Rattle.std.specs.Prelude.{◌≡◌, IfOk, List, Ok, map};
 ghost use Rattle.std.specs.List.{filter_map};
@@ -18,7 +18,7 @@ use crate::twice::unless_twice;
 use proto_wire::{OutOfMemory, fields};
 use std::alloc::Global;
 
-// The nodes of a Directory. Their texts stay in its bytes.
+// The nodes of a Directory, which borrow their texts from its bytes.
 #[tactic(auto, using(crate::proofs::TwiceOrder::in_order), unfolding(crate::specs::Reading::canon_of))]
 fn entries(alloc: Global, bytes: &[u8]) -> Result<Vec<Placed<'_>>, DirError>
     ensures { Gives (λ v. map node_of v.items) result (canon_of bytes.now) }
@@ -63,20 +63,21 @@ fn nodes_in(alloc: Global, bytes: &[u8]) -> Result<Vec<Node>, DirError>
     Ok(nodes_of(alloc, &entries)?)
 }
 
-/// The Directory whose canonical form these bytes are.
+/// The Directory whose canonical form the bytes are.
 pub fn read_canon(alloc: Global, bytes: &[u8]) -> Result<Directory, DirError>
     // What is read is canonical.
     ensures canon { IfOk result (λ dir. Canon dir bytes.now) }
     // What is canonical is read, unless memory runs out.
     ensures only { (dir : List Node) → Canon dir bytes.now → Gives (λ d. d) result (Ok dir) }
-    // The first fault is told, in the order of its definition.
+    // Other bytes are refused with the first fault.
     ensures exact { Gives (λ d. d) result (canon_of bytes.now) }
 {
     let nodes = nodes_in(alloc, bytes)?;
     Ok(Directory::of_canonical(nodes))
 }
 
-/// What the bytes link to, files first, where they are the canonical form of a Directory. It keeps no name.
+/// The links of the Directory whose canonical form the bytes are, files first; None if there is no such Directory.
+/// No name is copied.
 pub fn links_of(alloc: Global, bytes: &[u8]) -> Result<Option<Edges>, OutOfMemory>
     ensures { IfOk result (λ o. o ≡ links bytes.now) }
 {

@@ -30,6 +30,24 @@ fn link(alloc: Global, name: &str, target: &str) -> Result<Node, OutOfMemory> {
     })
 }
 
+/// A node of the list with this number.
+fn node(alloc: Global, list: u8, name: &str) -> Result<Node, OutOfMemory> {
+    match list {
+        1 => file(alloc, name),
+        2 => folder(alloc, name),
+        _ => link(alloc, name, "x"),
+    }
+}
+
+/// The Directory of nodes with these lists and names.
+fn made(alloc: Global, given: &[(u8, &str)]) -> Result<Directory, DirError> {
+    let mut nodes = Vec::new(alloc);
+    for (list, name) in given {
+        nodes.push(node(alloc, *list, name)?)?;
+    }
+    Directory::new(alloc, nodes)
+}
+
 /// The Directory of files with these names.
 fn files(alloc: Global, names: &[&str]) -> Result<Directory, DirError> {
     let mut nodes = Vec::new(alloc);
@@ -37,6 +55,16 @@ fn files(alloc: Global, names: &[&str]) -> Result<Directory, DirError> {
         nodes.push(file(alloc, name)?)?;
     }
     Directory::new(alloc, nodes)
+}
+
+/// The tree of a root and Directories below it, each of files with these names.
+fn tree(alloc: Global, root: &[&str], below: &[&[&str]]) -> Result<TreeMsg, DirError> {
+    let root = files(alloc, root)?;
+    let mut dirs = Vec::new(alloc);
+    for names in below {
+        dirs.push(files(alloc, names)?)?;
+    }
+    Ok(tree_of(alloc, root, dirs)?)
 }
 
 fn name_of(node: &Node) -> &str {
@@ -47,35 +75,31 @@ fn name_of(node: &Node) -> &str {
     }
 }
 
-/// The names of the nodes, each with a semicolon behind it.
-fn names_of(alloc: Global, dir: &Directory) -> Result<Bytes, OutOfMemory> {
-    let mut names = Bytes::new(alloc);
+/// Adds the names of the nodes, each with a semicolon behind it.
+fn push_names(names: &mut Bytes, dir: &Directory) -> Result<(), OutOfMemory> {
     for node in dir.nodes() {
         names.push_slice(name_of(node).as_bytes())?;
         names.push_slice(b";")?;
     }
-    Ok(names)
+    Ok(())
 }
 
 #[test]
 fn nodes_come_in_any_order(rt: HostRuntime) -> Result<(), Fail> {
-    let alloc = rt.alloc();
-    let mut nodes = Vec::new(alloc);
-    nodes.push(link(alloc, "d", "x").ok().ok_or("memory")?)?;
-    nodes.push(file(alloc, "b").ok().ok_or("memory")?)?;
-    nodes.push(folder(alloc, "c").ok().ok_or("memory")?)?;
-    nodes.push(file(alloc, "a").ok().ok_or("memory")?)?;
     // Lists come before names, and bytes count, not letters.
-    nodes.push(folder(alloc, "B").ok().ok_or("memory")?)?;
-    nodes.push(link(alloc, "A", "x").ok().ok_or("memory")?)?;
-    nodes.push(file(alloc, "a.").ok().ok_or("memory")?)?;
-    let dir = Directory::new(alloc, nodes).ok().ok_or("refused")?;
-    let names = names_of(alloc, &dir).ok().ok_or("memory")?;
+    let given = [
+        (3, "d"),
+        (1, "b"),
+        (2, "c"),
+        (1, "a"),
+        (2, "B"),
+        (3, "A"),
+        (1, "a."),
+    ];
+    let dir = made(rt.alloc(), &given).ok().ok_or("refused")?;
+    let mut names = Bytes::new(rt.alloc());
+    push_names(&mut names, &dir).ok().ok_or("memory")?;
     assert_eq!(rt; names.as_slice(), b"a;a.;b;B;c;A;d;".as_slice());
-    let empty = Directory::new(alloc, Vec::new(alloc))
-        .ok()
-        .ok_or("refused")?;
-    assert_eq!(rt; empty.nodes().len(), 0);
     Ok(())
 }
 
@@ -106,22 +130,12 @@ fn names_are_refused_by_their_position(rt: HostRuntime) -> Result<(), Fail> {
     Ok(())
 }
 
-#[test]
-fn a_name_has_at_most_255_bytes(rt: HostRuntime) -> Result<(), Fail> {
-    let cases: [(usize, Option<DirError>); 3] = [
-        (254, None),
-        (255, None),
-        (256, Some(DirError::BadName { at: 0 })),
-    ];
-    for (len, wanted) in cases {
-        let mut name = String::new(rt.alloc());
-        for _ in 0..len {
-            name.push('n')?;
-        }
-        let made = files(rt.alloc(), &[name.as_str()]);
-        assert_eq!(rt; made.err(), wanted, "{len}");
-    }
-    Ok(())
+/// The Directory of a directory "a" and a symlink.
+fn with_link(alloc: Global, name: &str, target: &str) -> Result<Directory, DirError> {
+    let mut nodes = Vec::new(alloc);
+    nodes.push(folder(alloc, "a")?)?;
+    nodes.push(link(alloc, name, target)?)?;
+    Directory::new(alloc, nodes)
 }
 
 #[test]
@@ -132,17 +146,13 @@ fn targets_are_refused_by_their_position(rt: HostRuntime) -> Result<(), Fail> {
         ("b", ".", None),
         ("b", "", Some(DirError::BadTarget { at: 1 })),
         ("b", "a\0b", Some(DirError::BadTarget { at: 1 })),
-        // The name comes first, and the target before a repeated name.
+        // The name is checked first, and the target before a repeated name.
         ("", "", Some(DirError::BadName { at: 1 })),
         ("a", "", Some(DirError::BadTarget { at: 1 })),
         ("a", "x", Some(DirError::Twice { at: 1 })),
     ];
     for (name, target, wanted) in cases {
-        let alloc = rt.alloc();
-        let mut nodes = Vec::new(alloc);
-        nodes.push(folder(alloc, "a").ok().ok_or("memory")?)?;
-        nodes.push(link(alloc, name, target).ok().ok_or("memory")?)?;
-        let made = Directory::new(alloc, nodes);
+        let made = with_link(rt.alloc(), name, target);
         assert_eq!(rt; made.err(), wanted, "{name:?} {target:?}");
     }
     Ok(())
@@ -150,28 +160,23 @@ fn targets_are_refused_by_their_position(rt: HostRuntime) -> Result<(), Fail> {
 
 #[test]
 fn a_tree_is_its_root_and_its_children(rt: HostRuntime) -> Result<(), Fail> {
-    let alloc = rt.alloc();
-    let root = files(alloc, &["a"]).ok().ok_or("refused")?;
-    let tree = tree_of(alloc, root, Vec::new(alloc)).ok().ok_or("memory")?;
-    let written = write_tree(alloc, &tree).ok().ok_or("memory")?;
-    assert_eq!(rt; written.as_slice(), ONE_FILE);
-
-    // The root is written though it is empty, and a child too.
-    let root = files(alloc, &[]).ok().ok_or("refused")?;
-    let mut below = Vec::new(alloc);
-    below.push(files(alloc, &[]).ok().ok_or("refused")?)?;
-    let tree = tree_of(alloc, root, below).ok().ok_or("memory")?;
-    let written = write_tree(alloc, &tree).ok().ok_or("memory")?;
-    assert_eq!(rt; written.as_slice(), b"\x0a\x00\x12\x00".as_slice());
+    // An empty root is written too, and so is an empty child.
+    let cases: [(&[&str], &[&[&str]], &[u8]); 2] = [
+        (&["a"], &[], ONE_FILE),
+        (&[], &[&[]], b"\x0a\x00\x12\x00"),
+    ];
+    for (root, below, wanted) in cases {
+        let tree = tree(rt.alloc(), root, below).ok().ok_or("refused")?;
+        let written = write_tree(rt.alloc(), &tree).ok().ok_or("memory")?;
+        assert_eq!(rt; written.as_slice(), wanted);
+    }
     Ok(())
 }
 
 #[test]
 fn children_are_distinct_and_sorted_by_digest(rt: HostRuntime) -> Result<(), Fail> {
-    let alloc = rt.alloc();
-    let mut below = Vec::new(alloc);
     // The hashes begin with e3 for none, with 4c, 07 and 64 for a, b and c alone, and with 8c for a and b.
-    let given: [&[&str]; 8] = [
+    let below: [&[&str]; 8] = [
         &[],
         &["a"],
         &["b"],
@@ -181,15 +186,10 @@ fn children_are_distinct_and_sorted_by_digest(rt: HostRuntime) -> Result<(), Fai
         &["c"],
         &["a", "b"],
     ];
-    for names in given {
-        below.push(files(alloc, names).ok().ok_or("refused")?)?;
-    }
-    let root = files(alloc, &["a"]).ok().ok_or("refused")?;
-    let tree = tree_of(alloc, root, below).ok().ok_or("memory")?;
-    let mut names = Bytes::new(alloc);
+    let tree = tree(rt.alloc(), &["a"], &below).ok().ok_or("refused")?;
+    let mut names = Bytes::new(rt.alloc());
     for dir in tree.children.as_slice() {
-        let of_one = names_of(alloc, dir).ok().ok_or("memory")?;
-        names.push_slice(of_one.as_slice()).ok().ok_or("memory")?;
+        push_names(&mut names, dir).ok().ok_or("memory")?;
         names.push_slice(b"|").ok().ok_or("memory")?;
     }
     assert_eq!(rt; names.as_slice(), b"b;|a;|c;|a;b;||".as_slice());

@@ -51,7 +51,7 @@ fn dirs(alloc: Global, rows: Vec<Keyed>) -> Result<Dirs, OutOfMemory>
     Ok(Dirs::from_vec(dirs))
 }
 
-/// The tree of a root and the Directories below it, of which repeats are dropped.
+/// The tree of a root and the Directories below it. Repeats are dropped.
 pub fn tree_of(
     alloc: Global,
     root: Directory,
@@ -65,7 +65,7 @@ pub fn tree_of(
     Ok(TreeMsg { root, children })
 }
 
-/// The bytes of a tree. The root is written even when it is empty.
+/// The bytes of a tree. The root is written even if it is empty.
 pub fn write_tree(alloc: Global, tree: &TreeMsg) -> Result<Bytes, OutOfMemory>
     ensures { IfOk result (λ b. b ≡ tree_spelled tree.now) }
 {

@@ -9,7 +9,7 @@ use crate::borrowed::{NodeRef, Placed};
 use crate::error::DirError;
 use std::cmp::Ordering;
 
-// How a node's place compares with that of this name in this list.
+// How a node's place in the order compares with that of this name in this list.
 fn compare(placed: &Placed<'_>, number: u32, name: &str) -> Ordering
     ensures { result ≡ place_cmp (place_of placed.now) (number, name.now) }
 {
@@ -29,7 +29,7 @@ fn has_name(all: &[Placed<'_>], number: u32, name: &str) -> bool
         .is_ok()
 }
 
-// Whether an earlier list has the name of this node.
+// Whether the name of this node stands in an earlier list.
 fn is_twice(all: &[Placed<'_>], placed: &Placed<'_>) -> bool
     requires { AreInOrder all.now }
     ensures { result ≡ is_twice (map entry_view all.now) (entry_view placed.now) }
@@ -41,7 +41,7 @@ fn is_twice(all: &[Placed<'_>], placed: &Placed<'_>) -> bool
     }
 }
 
-/// Refuses the first node whose name an earlier list has.
+/// Refuses the first node whose name stands in an earlier list.
 pub(crate) fn unless_twice(all: &[Placed<'_>]) -> Result<(), DirError>
     requires { AreInOrder all.now }
     ensures { Gives (λ _. map node_of all.now) result (unless_twice (find (is_twice (map entry_view all.now)) (map entry_view all.now)) (map entry_view all.now)) }

@@ -4,10 +4,10 @@ ghost use Rattle.std.specs.Prelude.{◌≡◌, ◌==◌, ◌||◌};
 ghost use Rattle.std.specs.List.{list_any};
 ghost use Rattle.directory_canon.specs.Node.{is_dots, is_name, is_target};
 
-/// How many bytes a name has at most.
+/// The most bytes of a name.
 const MAX_NAME: usize = 255;
 
-/// How many bytes a target has at most.
+/// The most bytes of a target.
 const MAX_TARGET: usize = 4095;
 
 fn is_dots(name: &str) -> bool
@@ -28,8 +28,8 @@ fn has_nul(bytes: &[u8]) -> bool
     bytes.contains(&0)
 }
 
-/// Text of 1 to 255 bytes that isn't `.` or `..`, and has no slash and no NUL.
-#[tactic(auto, using(crate::proofs::EntryLemmas::is_text), unfolding(crate::specs::Node::is_name))]
+/// Whether this is text of 1 to 255 bytes that isn't `.` or `..`, and has no slash and no NUL.
+#[tactic(auto, using(crate::proofs::EntryLemmas::texts), unfolding(crate::specs::Node::is_name))]
 pub(crate) fn is_name(name: &str) -> bool
     ensures { result ≡ is_name name.now }
 {
@@ -39,8 +39,8 @@ pub(crate) fn is_name(name: &str) -> bool
         && !has_slash_or_nul(name.as_bytes())
 }
 
-/// Text of 1 to 4,095 bytes that has no NUL.
-#[tactic(auto, using(crate::proofs::EntryLemmas::is_text), unfolding(crate::specs::Node::is_target))]
+/// Whether this is text of 1 to 4,095 bytes that has no NUL.
+#[tactic(auto, using(crate::proofs::EntryLemmas::texts), unfolding(crate::specs::Node::is_target))]
 pub(crate) fn is_target(target: &str) -> bool
     ensures { result ≡ is_target target.now }
 {

@@ -1,4 +1,4 @@
-//! The canonical bytes of Directories.
+//! Writing Directories in their canonical form.
 
 ghost use Rattle.std.specs.Prelude.{◌≡◌, ◌++◌, IfOk, Ok, OnOk};
 ghost use Rattle.directory_canon.specs.Canon.{Canon, content_of, node_spelled, spelled};
@@ -66,7 +66,7 @@ pub(crate) fn write_nodes(alloc: Global, nodes: &[Node]) -> Result<Bytes, OutOfM
 /// The canonical bytes of a Directory.
 pub fn write_canon(alloc: Global, dir: &Directory) -> Result<Bytes, OutOfMemory>
     ensures canon { IfOk result (λ b. Canon dir.now b) }
-    // What is written is read.
+    // The written bytes are read as this Directory.
     ensures again { IfOk result (λ b. canon_of b ≡ Ok dir.now) }
 {
     write_nodes(alloc, dir.nodes())
