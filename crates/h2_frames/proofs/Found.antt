@@ -4,7 +4,9 @@ use Rattle.std.proofs.lemmas.Bool.{ltb-false}
 use Rattle.std.proofs.lemmas.List.{length-take, length-drop}
 use Rattle.std.proofs.Math.Seq.{take-add}
 use Rattle.proto_wire.specs.Reading.{IsBytes}
+use Rattle.proto_wire.proofs.Steps.{bind_ok, done}
 use Rattle.proto_wire.proofs.Varints.{IsBytes-drop}
+use Rattle.h2_frames.specs.declared.fault.FrameFault.{FrameFault}
 use Rattle.h2_frames.specs.declared.frame.Frame.{Frame}
 use Rattle.h2_frames.specs.declared.layout.Header.{Header}
 use Rattle.h2_frames.specs.Layout.{header_of, offence}
@@ -12,7 +14,7 @@ use Rattle.h2_frames.specs.Reading.{payload_at, frame_at}
 use Rattle.h2_frames.specs.Spelling.{header_bytes, IsSpelling}
 use Rattle.h2_frames.proofs.Headers.{Sound, sound}
 use Rattle.h2_frames.proofs.Again.{head}
-use Rattle.h2_frames.proofs.Steps.{IsBytes-take, bind_ok, not_none, no_fault, done}
+use Rattle.h2_frames.proofs.Steps.{IsBytes-take, not_none, no_fault}
 use Rattle.h2_frames.proofs.HeaderFound.{header_found}
 use Rattle.h2_frames.proofs.Payloads.{payload_found}
 
@@ -24,7 +26,7 @@ pub record HasFrame (at : ℕ) (text : List ℕ) (f : Frame) (n : ℕ) : Type 0 
   pub read : payload_at at (header_of text) (take (header_of text).len (drop 9 text)) ≡ Ok f
   pub size : n ≡ 9 + (header_of text).len
 
-pub some_is : {A B : Type 0} (x y : A × B) → done (Some x) ≡ done (Some y) → (x.0 ≡ y.0) × (x.1 ≡ y.1)
+pub some_is : {A B : Type 0} (x y : A × B) → done FrameFault (Some x) ≡ done FrameFault (Some y) → (x.0 ≡ y.0) × (x.1 ≡ y.1)
 some_is x y e = let same : x ≡ y = cc in (ap (λ p. p.0) same, ap (λ p. p.1) same)
 
 pub frame_parts : (at : ℕ) (text : List ℕ) (f : Frame) (n : ℕ) → frame_at at text ≡ Ok (Some (f, n)) → HasFrame at text f n

@@ -6,16 +6,17 @@ use Rattle.std.proofs.lemmas.Bool.{eqb-true, eqb-false, ltb-false}
 use Rattle.std.proofs.lemmas.List.{length-take, length-drop, take-append-drop}
 use Rattle.std.proofs.lemmas.Nat.{be_bytes_2, be_bytes_4}
 use Rattle.proto_wire.specs.Reading.{IsBytes}
-use Rattle.proto_wire.proofs.Steps.{chosen}
+use Rattle.proto_wire.specs.Steps.{◌>>=◌}
+use Rattle.proto_wire.proofs.Steps.{chosen, bind_ok, guard_ok, ok_is}
 use Rattle.h2_frames.specs.declared.fault.FrameFault.TheVariants as faults
 use Rattle.h2_frames.specs.declared.frame.Frame.{Frame}
 use Rattle.h2_frames.specs.declared.frame.Frame.TheVariants as frames
 use Rattle.h2_frames.specs.Layout.{has, pad_len, priority_len, is_bad_length, number_at}
-use Rattle.h2_frames.specs.Reading.{◌>>=◌, unpadded, content_at, settings_in, plain_of, payload_at}
+use Rattle.h2_frames.specs.Reading.{unpadded, content_at, settings_in, plain_of, payload_at}
 use Rattle.h2_frames.specs.Spelling.{kind_of, IsNumber31, IsPadded, setting, AreSettings, IsPayload}
 use Rattle.h2_frames.proofs.Headers.{Sound}
 use Rattle.h2_frames.proofs.Again.{head}
-use Rattle.h2_frames.proofs.Steps.{two_fit, four_fit, bind_ok, guard_ok, ok_is}
+use Rattle.h2_frames.proofs.Steps.{two_fit, four_fit}
 use Rattle.h2_frames.proofs.HeaderFound.{number_small, number_found}
 
 -- ---- the content of a payload that may be padded

@@ -2,11 +2,11 @@
 use Rattle.std.proofs.Common.{◌≡◌, ℕ, ◌+◌, ◌<◌, ◌≤◌, Bool, true, false, cond, leb, List, length, take, drop, Option, Some, None, Result, Ok, Err, refl, sym, ap, subst, arith}
 use Rattle.std.proofs.lemmas.Bool.{leb-true, leb-false}
 use Rattle.std.proofs.lemmas.List.{length-take, length-drop}
+use Rattle.proto_wire.specs.Steps.{◌>>=◌}
+use Rattle.proto_wire.proofs.Steps.{bind_ok, fails_along}
 use Rattle.h2_frames.specs.declared.fault.FrameFault.{FrameFault}
-use Rattle.h2_frames.specs.declared.fault.FrameFault.TheVariants as faults
 use Rattle.h2_frames.specs.declared.frame.Frame.{Frame}
-use Rattle.h2_frames.specs.Reading.{◌>>=◌, Fails}
-use Rattle.h2_frames.proofs.Steps.{bind_ok}
+use Rattle.h2_frames.specs.Reading.{wants_memory, Fails}
 use Rattle.h2_frames.proofs.Rests.{part_short}
 use Rattle.h2_frames.specs.Stream.{Pending, preface, difference, whole_or_fault, preface_at, advanced, behind, begun, seen, give, given}
 
@@ -29,12 +29,7 @@ unfolding given
 failed_by r b e is s = subst (λ (x : Pending). (seen x >>= λ p. Ok (give x p)) ≡ Err e) is (ap (λ (q : Result (Option (Frame × ℕ)) FrameFault). q >>= λ p. Ok (give b p)) s)
 
 pub fails_by : (r b : Pending) (e : FrameFault) → b ≡ begun r → Fails e (seen b) → Fails e (given r)
-fails_by r b faults.OutOfMemory is s = tt
-fails_by r b (faults.BadPreface at) is s = failed_by r b (faults.BadPreface at) is s
-fails_by r b (faults.TooLong at) is s = failed_by r b (faults.TooLong at) is s
-fails_by r b (faults.BadLength at) is s = failed_by r b (faults.BadLength at) is s
-fails_by r b (faults.BadPadding at) is s = failed_by r b (faults.BadPadding at) is s
-fails_by r b (faults.BadStream at) is s = failed_by r b (faults.BadStream at) is s
+fails_by r b e is s = fails_along wants_memory e (seen b) (given r) (failed_by r b e is) s
 
 pub is_whole : (r : Result Bool FrameFault) (b : Bool) → r ≡ Ok b → b ≡ true → r ≡ Ok true
 is_whole r b e t = cc

@@ -3,17 +3,19 @@ use Rattle.std.proofs.Common.{◌≡◌, ℕ, suc, ◌+◌, ◌-◌, ◌<◌, �
 use Rattle.std.proofs.lemmas.Bool.{eqb-true, eq-eqb, ltb-true, ltb-false, lt-ltb, le-ltb}
 use Rattle.std.proofs.lemmas.List.{length-take, length-drop, take-append-drop, drop_at}
 use Rattle.proto_wire.specs.Reading.{IsBytes}
-use Rattle.proto_wire.proofs.Steps.{chosen}
+use Rattle.proto_wire.specs.Steps.{◌>>=◌}
+use Rattle.proto_wire.proofs.Steps.{chosen, done}
 use Rattle.h2_frames.specs.declared.fault.FrameFault.{FrameFault}
 use Rattle.h2_frames.specs.declared.fault.FrameFault.TheVariants as faults
 use Rattle.h2_frames.specs.declared.frame.Frame.{Frame}
 use Rattle.h2_frames.specs.declared.frame.Frame.TheVariants as frames
 use Rattle.h2_frames.specs.declared.layout.Header.{Header}
 use Rattle.h2_frames.specs.Layout.{has, pad_len, priority_len, is_bad_length, header_of, offence}
-use Rattle.h2_frames.specs.Reading.{◌>>=◌, unless, unpadded, content_at, payload_at, frame_at}
+use Rattle.h2_frames.specs.Reading.{unless_fault, unpadded, content_at, payload_at, frame_at}
 use Rattle.h2_frames.specs.Grammar.{HasHeader, IsFramePrefix, HasOffence, IsSkipped, IsOverpadded, IsRest}
 use Rattle.h2_frames.proofs.Headers.{Sound, sound, no_offence}
 use Rattle.h2_frames.proofs.Again.{head, header_again}
+use Rattle.h2_frames.proofs.Steps.{no_fault}
 use Rattle.h2_frames.proofs.HeaderFound.{header_found}
 
 -- ---- what a header says does not depend on its place
@@ -40,13 +42,9 @@ has_header text fits long =
 
 -- ---- steps
 
-none_of : {A : Type 0} (o : Option FrameFault) (r : Result A FrameFault) (e : FrameFault) → unless o r ≡ Err e → (o ≡ Some e) ⊎ ((o ≡ None) × (r ≡ Err e))
+none_of : {A : Type 0} (o : Option FrameFault) (r : Result A FrameFault) (e : FrameFault) → unless_fault o r ≡ Err e → (o ≡ Some e) ⊎ ((o ≡ None) × (r ≡ Err e))
 none_of None r e h = inr (refl, h)
 none_of (Some d) r e h = inl cc
-
-goes_by : {A : Type 0} (o : Option FrameFault) (r : Result A FrameFault) (x : A) → unless o r ≡ Ok x → (o ≡ None) × (r ≡ Ok x)
-goes_by None r x h = (refl, h)
-goes_by (Some d) r x h = absurd cc
 
 fault_of : {A B : Type 0} (r : Result A FrameFault) (f : A → B) (e : FrameFault) → (r >>= λ x. Ok (f x)) ≡ Err e → r ≡ Err e
 fault_of (Ok x) f e h = absurd cc
@@ -56,14 +54,11 @@ never_none : {A B : Type 0} (r : Result A FrameFault) (f : A → B) → (r >>= �
 never_none (Ok x) f h = cc
 never_none (Err d) f h = cc
 
-abbrev given_ok : {A : Type 0} → A → Result A FrameFault
-given_ok x = Ok x
-
 wrong : {A : Type 0} (b : Bool) (x : A) (d e : FrameFault) → cond b (Err d) (Ok x) ≡ Err e → (b ≡ true) × (e ≡ d)
 wrong true x d e h = (refl, cc)
 wrong false x d e h = absurd cc
 
-ok_never : {A : Type 0} (x : A) (e : FrameFault) → given_ok x ≡ Err e → ⊥
+ok_never : {A : Type 0} (x : A) (e : FrameFault) → done FrameFault x ≡ Err e → ⊥
 ok_never x e h = cc
 
 -- ---- less than a frame
@@ -75,7 +70,7 @@ part_found at text fits e =
     elim (chosen (ltb (length text) 9) _ _ (Ok None) e) [
       | inl p ↦ inl (ltb-true _ _ p.0)
       | inr p ↦
-          let a = goes_by (offence at h) _ None p.1 in
+          let a = no_fault (offence at h) _ None p.1 in
           elim (chosen (ltb (length (drop 9 text)) h.len) _ _ (Ok None) a.1) [
             | inl q ↦ inr (record { header = h; behind = drop 9 text; begins = has_header text fits (ltb-false _ _ p.0); sound = sound_here at h a.0; short = ltb-true _ _ q.0 })
             | inr q ↦ absurd (never_none (payload_at at h (take h.len (drop 9 text))) (λ f. (f, 9 + h.len)) q.1)
@@ -90,7 +85,7 @@ part_short at text e =
     elim (chosen (ltb (length text) 9) _ _ (Ok None) e) [
       | inl p ↦ let few : length text < 9 = ltb-true _ _ p.0 in omega arith
       | inr p ↦
-          let a = goes_by (offence at h) _ None p.1 in
+          let a = no_fault (offence at h) _ None p.1 in
           elim (chosen (ltb (length (drop 9 text)) h.len) _ _ (Ok None) a.1) [
             | inl q ↦
                 let fewer : length (drop 9 text) < h.len = ltb-true _ _ q.0 in

@@ -1,8 +1,8 @@
--- Bytes, and what follows from a reading that gave a value, step by step.
-use Rattle.std.proofs.Common.{◌≡◌, ℕ, zero, suc, ◌<◌, Bool, true, false, cond, Result, Ok, Err, Option, Some, None, List, [], ◌∷◌, take, refl, arith}
+-- Bytes, and what follows from a reading that gave a frame, step by step.
+use Rattle.std.proofs.Common.{◌≡◌, ℕ, zero, suc, ◌<◌, Bool, true, false, cond, Result, Ok, Option, Some, None, List, [], ◌∷◌, take, refl, arith}
 use Rattle.proto_wire.specs.Reading.{IsBytes}
 use Rattle.h2_frames.specs.declared.fault.FrameFault.{FrameFault}
-use Rattle.h2_frames.specs.Reading.{◌>>=◌, unless}
+use Rattle.h2_frames.specs.Reading.{unless_fault}
 
 -- ---- bytes
 
@@ -26,24 +26,10 @@ four_fit a b c d p q r s (suc (suc (suc (suc i)))) = omega arith
 
 -- ---- steps
 
-pub bind_ok : {A B : Type 0} (r : Result A FrameFault) (f : A → Result B FrameFault) (y : B) → (r >>= f) ≡ Ok y → (x : A) × (r ≡ Ok x) × (f x ≡ Ok y)
-bind_ok (Ok x) f y e = (x, refl, e)
-bind_ok (Err d) f y e = absurd cc
-
-pub guard_ok : {A : Type 0} (b : Bool) (d : FrameFault) (x y : A) → cond b (Err d) (Ok x) ≡ Ok y → (b ≡ false) × (x ≡ y)
-guard_ok true d x y e = absurd cc
-guard_ok false d x y e = (refl, cc)
-
-abbrev pub done : {A : Type 0} → A → Result A FrameFault
-done x = Ok x
-
-pub ok_is : {A : Type 0} (x y : A) → done x ≡ done y → x ≡ y
-ok_is x y e = cc
-
 pub not_none : {A : Type 0} (b : Bool) (r : Result (Option A) FrameFault) (x : A) → cond b (Ok None) r ≡ Ok (Some x) → (b ≡ false) × (r ≡ Ok (Some x))
 not_none true r x e = absurd cc
 not_none false r x e = (refl, e)
 
-pub no_fault : {A : Type 0} (o : Option FrameFault) (r : Result A FrameFault) (x : A) → unless o r ≡ Ok x → (o ≡ None) × (r ≡ Ok x)
+pub no_fault : {A : Type 0} (o : Option FrameFault) (r : Result A FrameFault) (x : A) → unless_fault o r ≡ Ok x → (o ≡ None) × (r ≡ Ok x)
 no_fault None r x e = (refl, e)
 no_fault (Some d) r x e = absurd cc

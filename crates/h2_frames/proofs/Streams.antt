@@ -2,12 +2,13 @@
 use Rattle.std.proofs.Common.{◌≡◌, ◌≢◌, ◌<◌, eqb, ℕ, ◌+◌, ◌≤◌, ◌⊎◌, inl, inr, Bool, true, false, cond, Result, Ok, Err, Option, Some, None, List, [], ◌∷◌, ◌++◌, length, take, drop, refl, sym, ap, subst, ◌∙◌, append_assoc, arith}
 use Rattle.std.proofs.lemmas.Bool.{ne_eqb}
 use Rattle.std.proofs.lemmas.List.{append-nil, length-append, length-take, take-append-drop, take_at, take-append-le}
+use Rattle.proto_wire.specs.Steps.{◌>>=◌}
 use Rattle.proto_wire.specs.Reading.{IsBytes}
 use Rattle.proto_wire.proofs.Found.{IsBytes-behind}
 use Rattle.h2_frames.specs.declared.fault.FrameFault.{FrameFault}
 use Rattle.h2_frames.specs.declared.frame.Frame.{Frame}
 use Rattle.h2_frames.specs.declared.fault.FrameFault.TheVariants as faults
-use Rattle.h2_frames.specs.Reading.{◌>>=◌, Fails, frame_at}
+use Rattle.h2_frames.specs.Reading.{Fails, frame_at}
 use Rattle.h2_frames.specs.Stream.{Pending, fresh, preface, preface_at, advanced, cut, behind, begun, seen, give, given, Answers, fed_by, fed, place_of, rest_place}
 use Rattle.h2_frames.specs.declared.layout.Header.{Header}
 use Rattle.h2_frames.specs.Grammar.{HasHeader, HasOffence, IsOverpadded, Frames, front_of, IsStream, StandsBehind, HasGiven}

@@ -5,12 +5,12 @@ use Rattle.h2_frames.specs.declared.fault.FrameFault.{FrameFault}
 use Rattle.h2_frames.specs.declared.fault.FrameFault.TheVariants as faults
 use Rattle.h2_frames.specs.declared.layout.Header.{Header}
 
--- a flag is set
+-- whether a flag is set
 abbrev pub has : ℕ → ℕ → Bool
 has flag flags = not (bit_and flags flag == 0)
 
--- DATA, HEADERS, PRIORITY, RST_STREAM and CONTINUATION belong to a stream; so does PUSH_PROMISE, which the crate above
--- refuses on any stream
+-- DATA, HEADERS, PRIORITY, RST_STREAM and CONTINUATION belong to a stream. So does PUSH_PROMISE, but the crate above
+-- refuses it on any stream.
 abbrev pub is_on_stream : ℕ → Bool
 is_on_stream kind = kind == 0 || kind == 1 || kind == 2 || kind == 3 || kind == 9
 
@@ -18,11 +18,11 @@ is_on_stream kind = kind == 0 || kind == 1 || kind == 2 || kind == 3 || kind == 
 abbrev pub is_on_connection : ℕ → Bool
 is_on_connection kind = kind == 4 || kind == 6 || kind == 7
 
--- PADDED: a byte says how long the padding is
+-- with PADDED, one byte gives the length of the padding
 abbrev pub pad_len : ℕ → ℕ
 pad_len flags = if has 8 flags then 1 else 0
 
--- PRIORITY of HEADERS: five bytes of priority fields
+-- with PRIORITY, HEADERS has five bytes of priority fields
 abbrev pub priority_len : ℕ → ℕ
 priority_len flags = if has 32 flags then 5 else 0
 
@@ -37,12 +37,12 @@ is_bad_length h =
     else if h.kind == 6 then not (h.len == 8)
     else (h.kind == 7 && nat_lt h.len 8)
 
--- a number of four bytes that stands at `i`
+-- the number in the four bytes at `i`, big-endian
 abbrev pub number_at : ℕ → List ℕ → ℕ
 number_at i text =
     from_be_bytes w32 (slice_index text i ∷ slice_index text (i + 1) ∷ slice_index text (i + 2) ∷ slice_index text (i + 3) ∷ [])
 
--- the header in the first nine bytes: length, type, flags, and a stream behind a bit that is ignored
+-- the header in the first nine bytes: length, type, flags, a bit that is ignored, and stream
 unfoldable pub header_of : List ℕ → Header
 header_of text = record {
   len = slice_index text 0 * 65536 + slice_index text 1 * 256 + slice_index text 2;

@@ -1,7 +1,8 @@
 -- What stands at the beginning of some bytes: a proper prefix of a frame, a malformed frame, or a frame and its length
 -- in bytes (RFC 9113, sections 4.1 and 6).
-use Rattle.std.specs.Prelude.{◌≡◌, ◌+◌, ◌++◌, ◌-◌, ◌%◌, ◌==◌, nat_lt, ℕ, List, [], ◌∷◌, length, take, drop, slice_index, Option, Some, None, Result, Ok, Err, if◌then◌else◌}
+use Rattle.std.specs.Prelude.{◌≡◌, ◌+◌, ◌++◌, ◌-◌, ◌%◌, ◌==◌, nat_lt, ℕ, Bool, true, false, List, [], ◌∷◌, length, take, drop, slice_index, Option, Some, None, Result, Ok, Err, if◌then◌else◌}
 use Rattle.std.specs.Int.{w16, w32, from_be_bytes}
+use Rattle.proto_wire.specs.Steps.{◌>>=◌, FailsBut, GivesBut}
 use Rattle.h2_frames.specs.declared.fault.FrameFault.{FrameFault}
 use Rattle.h2_frames.specs.declared.fault.FrameFault.TheVariants as faults
 use Rattle.h2_frames.specs.declared.frame.Frame.{Frame}
@@ -9,32 +10,25 @@ use Rattle.h2_frames.specs.declared.frame.Frame.TheVariants as frames
 use Rattle.h2_frames.specs.declared.layout.Header.{Header}
 use Rattle.h2_frames.specs.Layout.{has, priority_len, number_at, header_of, offence}
 
--- the next step, where the one before gave a value
-infixl 10 ◌>>=◌
-abbrev pub ◌>>=◌ : {A B : Type 0} → Result A FrameFault → (A → Result B FrameFault) → Result B FrameFault
-(Ok x) >>= f = f x
-(Err e) >>= f = Err e
+-- want of memory
+abbrev pub wants_memory : FrameFault → Bool
+wants_memory faults.OutOfMemory = true
+wants_memory _ = false
 
--- the next step, where there is no fault
-abbrev pub unless : {B : Type 0} → Option FrameFault → Result B FrameFault → Result B FrameFault
-unless None r = r
-unless (Some e) r = Err e
-
--- what a refusal of the code says of what reading gives: want of memory says nothing
+-- what a refusal says of what reading gives: want of memory says nothing
 abbrev pub Fails : {Y : Type 0} → FrameFault → Result Y FrameFault → Type 0
-Fails faults.OutOfMemory read = Unit {0}
-Fails (faults.BadPreface at) read = read ≡ Err (faults.BadPreface at)
-Fails (faults.TooLong at) read = read ≡ Err (faults.TooLong at)
-Fails (faults.BadLength at) read = read ≡ Err (faults.BadLength at)
-Fails (faults.BadPadding at) read = read ≡ Err (faults.BadPadding at)
-Fails (faults.BadStream at) read = read ≡ Err (faults.BadStream at)
+Fails e read = FailsBut wants_memory e read
 
--- What a function of the code returned, seen by view, is what reading gives, unless memory ran out.
+-- what a function returned, seen by view, is what reading gives, unless memory ran out
 abbrev pub Gives : {X Y : Type 0} → (X → Y) → Result X FrameFault → Result Y FrameFault → Type 0
-Gives view (Ok x) read = read ≡ Ok (view x)
-Gives view (Err e) read = Fails e read
+Gives view result read = GivesBut wants_memory view result read
 
--- a content without the padding behind it
+-- what is read next if the header shows no fault
+abbrev pub unless_fault : {B : Type 0} → Option FrameFault → Result B FrameFault → Result B FrameFault
+unless_fault None r = r
+unless_fault (Some e) r = Err e
+
+-- the content in front of so many bytes of padding
 abbrev pub unpadded : ℕ → ℕ → List ℕ → Result (List ℕ) FrameFault
 unpadded at pad text = if nat_lt (length text) pad then Err (faults.BadPadding at) else Ok (take (length text - pad) text)
 
@@ -43,7 +37,7 @@ unfoldable pub content_at : ℕ → ℕ → ℕ → List ℕ → Result (List �
 content_at at flags skip payload =
     if has 8 flags then unpadded at (slice_index payload 0) (drop (1 + skip) payload) else Ok (drop skip payload)
 
--- the settings in a payload: two bytes of an identifier and four of a value, each time
+-- the settings in a payload: each is two bytes of an identifier and four of a value
 unfoldable pub settings_in : List ℕ → List (ℕ × ℕ)
 settings_in (a ∷ b ∷ c ∷ d ∷ e ∷ f ∷ rest) =
     (from_be_bytes w16 (a ∷ b ∷ []), from_be_bytes w32 (c ∷ d ∷ e ∷ f ∷ [])) ∷ settings_in rest
@@ -73,12 +67,12 @@ payload_at at h payload =
       Ok (frames.Headers h.stream block (has 1 h.flags) (has 4 h.flags)))
     else Ok (plain_of h payload)
 
--- What stands at the beginning of bytes of which the first stands at `at`. None says that they are empty, or a proper
+-- What stands at the beginning of bytes, the first of which stands at `at`. It is None if they are empty or a proper
 -- prefix of a frame.
 unfoldable pub frame_at : ℕ → List ℕ → Result (Option (Frame × ℕ)) FrameFault
 frame_at at text =
     if nat_lt (length text) 9 then Ok None
-    else unless (offence at (header_of text)) (
+    else unless_fault (offence at (header_of text)) (
     if nat_lt (length (drop 9 text)) (header_of text).len then Ok None
     else (do
       frame ← payload_at at (header_of text) (take (header_of text).len (drop 9 text))

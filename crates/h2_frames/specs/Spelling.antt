@@ -35,7 +35,8 @@ pub record IsNumber31 (text : List ℕ) (n : ℕ) : Type 0 where
   pub small : n < 2 ^ 31
   pub whole : text ≡ to_be_bytes w32 (bit * 2 ^ 31 + n)
 
--- the content stands behind so many bytes of fields, and, where there is padding, between its length and itself
+-- The content stands behind so many bytes of fields. With padding, the length of the padding comes before these fields,
+-- and the padding behind the content.
 abbrev pub IsPadded : Bool → ℕ → List ℕ → List ℕ → Type 0
 IsPadded false skip payload content = (fields : List ℕ) × (length fields ≡ skip) × (payload ≡ fields ++ content)
 IsPadded true skip payload content = (fields : List ℕ) × (padding : List ℕ) × (length fields ≡ skip)
@@ -88,7 +89,7 @@ pub record IsSpelling (text : List ℕ) (f : Frame) : Type 0 where
 
 -- ---- what is written
 
--- a flag, where it is set
+-- a flag if it is set, and no flag otherwise
 abbrev pub flag : Bool → ℕ → ℕ
 flag set n = if set then n else 0
 
@@ -110,7 +111,7 @@ spelled (frames.Window stream increment) = framed 8 0 stream (to_be_bytes w32 in
 spelled (frames.Continuation stream block end_headers) = framed 9 (flag end_headers 4) stream block
 spelled (frames.Unknown kind) = framed kind 0 0 []
 
--- the number of a stream, which is not the connection
+-- the number of a stream other than the connection's, 0
 abbrev pub IsStreamNumber : ℕ → Type 0
 IsStreamNumber stream = (0 < stream) × (stream < 2 ^ 31)
 
@@ -133,7 +134,7 @@ abbrev pub HasSettings : List (ℕ × ℕ) → Type 0
 HasSettings [] = Unit {0}
 HasSettings (s ∷ ss) = (s.0 < 2 ^ 16) × (s.1 < 2 ^ 32) × HasSettings ss
 
--- each number is one of its type in the code
+-- each number fits its type in the code
 abbrev pub IsTyped : Frame → Type 0
 IsTyped (frames.Data stream bytes size end_stream) = Unit {0}
 IsTyped (frames.Headers stream block end_stream end_headers) = Unit {0}
@@ -147,7 +148,7 @@ IsTyped (frames.Window stream increment) = Unit {0}
 IsTyped (frames.Continuation stream block end_headers) = Unit {0}
 IsTyped (frames.Unknown kind) = Unit {0}
 
--- a prefix of the text was added at the end, maybe nothing or all of it
+-- a prefix of the text was appended: nothing, a part or all of it
 pub record AddsPart (old new text : List ℕ) : Type 0 where
   pub front : List ℕ
   pub rest : List ℕ

@@ -1,4 +1,4 @@
-//! `FrameFault`.
+//! Why bytes are refused.
 
 ghost use Rattle.std.specs.Prelude.{◌≡◌};
 ghost use Rattle.h2_frames.specs.declared.fault.FrameFault.TheVariants.{OutOfMemory as NoMemory};
@@ -6,8 +6,8 @@ ghost use Rattle.h2_frames.specs.declared.fault.FrameFault.TheVariants.{OutOfMem
 use proto_wire::OutOfMemory;
 use std::alloc::{AllocError, AllocFailed};
 
-/// Why bytes are malformed. `at` counts all bytes of the connection from 0: it is the place of the first byte of the
-/// malformed frame, and for the preface of the first byte that differs.
+/// Why bytes are refused. `at` is a place among all bytes of the connection, counted from 0: that of the first byte of
+/// the malformed frame, or, for the preface, that of the first byte that differs.
 #[derive(Clone, Copy, Debug, PartialEq, Eq)]
 pub enum FrameFault {
     /// The bytes do not begin with the client's connection preface.
@@ -18,7 +18,7 @@ pub enum FrameFault {
     BadLength { at: u64 },
     /// The padding is longer than the rest of the payload.
     BadPadding { at: u64 },
-    /// The type is not allowed on stream 0, or is allowed on stream 0 alone.
+    /// The type is not allowed on stream 0, or is allowed only there.
     BadStream { at: u64 },
     /// Memory ran out.
     OutOfMemory,

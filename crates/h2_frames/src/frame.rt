@@ -1,14 +1,14 @@
-//! `Frame`.
+//! Frames without what a receiver ignores.
 
 use proto_wire::{Bytes, Listed};
 
-/// Identifiers and values, in the order of the frame.
+/// Identifiers and values, in the order in which the frame has them.
 pub type Settings = Listed<(u16, u32)>;
 
-/// A frame without its padding, its priority fields and what no receiver reads of it.
+/// A frame without its padding, its priority fields and all else that a receiver ignores.
 #[derive(Debug, Drop)]
 pub enum Frame {
-    /// DATA. `size` is the length of the payload in bytes, padding included, and `end` is END_STREAM.
+    /// DATA. `size` is the length of the payload in bytes, with the padding and its length byte, and `end` is END_STREAM.
     Data {
         stream: u32,
         bytes: Bytes,
@@ -22,7 +22,7 @@ pub enum Frame {
         end: bool,
         whole: bool,
     },
-    /// PRIORITY, whose fields are ignored: they are deprecated.
+    /// PRIORITY, whose fields are deprecated and ignored.
     Priority {
         stream: u32,
     },
@@ -36,7 +36,7 @@ pub enum Frame {
         ack: bool,
         values: Settings,
     },
-    /// PUSH_PROMISE, which no client sends and no server may get.
+    /// PUSH_PROMISE, which a client must not send (section 8.4). Its fields are ignored.
     Push {
         stream: u32,
     },
@@ -45,7 +45,8 @@ pub enum Frame {
         ack: bool,
         bytes: [u8; 8],
     },
-    /// GOAWAY without its debug data. `last` is the last stream that the peer has processed.
+    /// GOAWAY with an error code, without its debug data. `last` is the highest stream that its sender may have
+    /// processed.
     GoAway {
         last: u32,
         code: u32,
@@ -61,7 +62,7 @@ pub enum Frame {
         block: Bytes,
         whole: bool,
     },
-    /// A type that the standard does not define, which has to be ignored.
+    /// A frame of a type that the standard does not define, which a receiver must ignore.
     Unknown {
         kind: u8,
     },

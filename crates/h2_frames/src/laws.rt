@@ -1,4 +1,4 @@
-//! What holds of the definitions alone.
+//! Laws of the definitions: what a frame reader reads, against the grammar of RFC 9113.
 
 ghost use Rattle.std.specs.Prelude.{◌≡◌, ◌≢◌, ◌≤◌, ◌++◌, [], ◌∷◌, List, ℕ, Bool, length, take, Option, Some, None, Ok, Err};
 ghost use Rattle.proto_wire.specs.Reading.{IsBytes};
@@ -18,7 +18,8 @@ pub fn spelled_is_read()
     ensures within { (at : ℕ) (text : List ℕ) (f : AFrame) (n : ℕ) → frame_at at text ≡ Ok (Some (f, n)) → n ≤ length text }
 {}
 
-/// Nothing is read where a proper prefix of a frame stands, and only there; likewise a fault.
+/// No frame is read exactly where the bytes are empty or a proper prefix of a frame, and a fault is read exactly where
+/// a malformed frame begins.
 pub fn rest_is_told()
     ensures part { (at : ℕ) (text : List ℕ) → IsRest at text None → frame_at at text ≡ Ok None }
     ensures part_only { (at : ℕ) (text : List ℕ) → IsBytes text → frame_at at text ≡ Ok None → IsRest at text None }
@@ -32,9 +33,10 @@ pub fn written_is_read()
     ensures read { (f : AFrame) → Writable f → IsTyped f → IsReadAs (spelled f) f }
 {}
 
-/// Whatever the pieces, a reader gives the frames of all bytes that were fed, one after the other. If it gives none, it
-/// has given exactly the frames of the grammar's reading of all these bytes: with `None` the rest is that of the reading,
-/// at a refusal the fault, and each time `rest_at` tells where the rest begins. Want of memory is no fault of the bytes.
+/// Whatever the pieces, a reader gives the frames of all bytes that were fed, one after the other. When it gives none, it
+/// has given exactly the frames of the grammar's reading of all these bytes: a `None` tells that this reading ends in no
+/// fault, and a refusal tells its fault, and in both cases `rest_at` tells where its rest begins. Want of memory is no
+/// fault of the bytes.
 pub fn frames_are_given()
     ensures starts { (due : Bool) → HasGiven due [] [] (fresh due) }
     ensures feeds { (due : Bool) (text bytes : List ℕ) (ps : List (ℕ × AFrame)) (r : Pending) → r.fault ≡ None → HasGiven due text ps r → HasGiven due (text ++ bytes) ps (fed bytes r) }
@@ -43,8 +45,8 @@ pub fn frames_are_given()
     ensures refuses { (due : Bool) (text : List ℕ) (ps : List (ℕ × AFrame)) (e : Fault) (r s : Pending) → IsBytes text → HasGiven due text ps r → e ≢ NoMemory → Answers r s (Err e) → HasGiven due text ps s × IsStream due text ps (Some e) (rest_place s) }
 {}
 
-/// So does a whole run, from a new reader on: what it has given are frames of all bytes that were fed, and if the next
-/// call gives none, they are all of them, with the rest or the fault and its place.
+/// The same holds of a whole run from a new reader on: what it has given are frames of all bytes that were fed, and if
+/// the next call gives none, they are all of them, with the fault, if there is one, and the place of the rest.
 pub fn runs_give_frames()
     ensures gives { (due : Bool) (s : Pending) (es : List Event) → IsBytes (bytes_of es) → Runs (fresh due) es s → HasGiven due (bytes_of es) (frames_of es) s }
     ensures waits { (due : Bool) (s t : Pending) (es : List Event) → IsBytes (bytes_of es) → Runs (fresh due) es s → Answers s t (Ok None) → IsStream due (bytes_of es) (frames_of es) None (rest_place t) }

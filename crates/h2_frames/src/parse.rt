@@ -1,4 +1,4 @@
-//! One frame from bytes.
+//! One frame from its bytes.
 
 ghost use Rattle.std.specs.Prelude.{◌≡◌, ◌+◌, ◌≤◌, ◌<◌, length, false, None, IfOk, IfSome};
 ghost use Rattle.h2_frames.specs.Layout.{has, pad_len, priority_len, is_bad_length, number_at, offence};
@@ -27,7 +27,8 @@ fn number_in(bytes: &[u8], i: usize) -> u32
     u32::from_be_bytes([bytes[i], bytes[i + 1], bytes[i + 2], bytes[i + 3]])
 }
 
-/// The content between the fields at the front of the payload and the padding.
+/// The content of a payload: what stands behind the length of the padding, if there is one, and `skip` bytes of priority
+/// fields, and before the padding.
 #[tactic(auto, unfolding(crate::specs::Reading::content_at))]
 fn content_in(at: u64, flags: u8, skip: usize, payload: &[u8]) -> Result<&[u8], FrameFault>
     requires { pad_len flags + skip ≤ length payload.now }
@@ -70,7 +71,7 @@ fn ping(payload: &[u8]) -> [u8; 8]
     bytes
 }
 
-/// A frame whose payload has no padding.
+/// The frame of a payload whose type has no padding.
 #[tactic(auto, unfolding(crate::specs::Reading::plain_of, crate::specs::Layout::is_bad_length))]
 fn plain(alloc: Global, h: Header, payload: &[u8]) -> Result<Frame, OutOfMemory>
     requires len { length payload.now ≡ h.len }
@@ -159,11 +160,10 @@ pub(crate) fn frame_in(
     if let Some(fault) = offence(at, h) {
         return Err(fault);
     }
-    let (_, rest) = bytes.split_at(HEADER_LEN);
-    if rest.len() < h.len {
+    let len = HEADER_LEN + h.len;
+    if bytes.len() < len {
         return Ok(None);
     }
-    let (payload, _) = rest.split_at(h.len);
-    let frame = payload_in(alloc, at, h, payload)?;
-    Ok(Some((frame, HEADER_LEN + h.len)))
+    let frame = payload_in(alloc, at, h, &bytes[HEADER_LEN..len])?;
+    Ok(Some((frame, len)))
 }

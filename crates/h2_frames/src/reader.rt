@@ -1,4 +1,4 @@
-//! `FrameReader`. Of its calls `feed` and `next` alone take memory.
+//! The reader of a connection's frames. Only `feed` and `next` take memory.
 
 ghost use Rattle.std.specs.Prelude.{◌≡◌, ◌+◌, ◌≤◌, ◌<◌, ◌^◌, ◌↔◌, length, drop, vec_len, None, Some, Err, IsErr, IsNone, IfSome, IfOk, IfErr, OnOk, OnErr};
 ghost use Rattle.proto_wire.specs.Reading.{IsBytes};
@@ -9,14 +9,14 @@ ghost use Rattle.h2_frames.specs.declared.fault.FrameFault.TheVariants.{OutOfMem
 use crate::fault::FrameFault;
 use crate::frame::Frame;
 use crate::parse::frame_in;
-use proto_wire::OutOfMemory;
+use proto_wire::{OutOfMemory, drop_front};
 use std::alloc::Global;
 use std::marker::Model;
 
 /// What a client sends before its first frame (RFC 9113, section 3.4).
 const PREFACE: [u8; 24] = *b"PRI * HTTP/2.0\r\n\r\nSM\r\n\r\n";
 
-/// The place of the first byte that differs, where the first byte of both stands at `at`.
+/// The place of the first byte that differs. The first byte of each stands at `at`.
 #[tactic(auto, unfolding(crate::specs::Stream::difference))]
 fn difference(at: u64, wanted: &[u8], bytes: &[u8]) -> Option<u64>
     requires { at + length wanted.now < 2 ^ 62 }
@@ -37,7 +37,7 @@ fn difference(at: u64, wanted: &[u8], bytes: &[u8]) -> Option<u64>
     }
 }
 
-/// Whether the bytes begin with the whole preface. Bytes that are a proper prefix of it are no fault.
+/// Whether the bytes begin with the whole preface. A proper prefix of it is no fault.
 #[tactic(auto, unfolding(crate::specs::Stream::preface_at, crate::specs::Stream::preface))]
 fn preface_in(at: u64, bytes: &[u8]) -> Result<bool, FrameFault>
     requires { at ≤ 2 ^ 60 }
@@ -49,16 +49,7 @@ fn preface_in(at: u64, bytes: &[u8]) -> Result<bool, FrameFault>
     }
 }
 
-fn drop_front(bytes: &mut Vec<u8>, count: usize)
-    requires { count ≤ vec_len bytes.old }
-    ensures { bytes.new.items ≡ drop count bytes.old.items }
-{
-    let len = bytes.len();
-    bytes.rotate_left(count);
-    bytes.truncate(len - count);
-}
-
-/// Takes the bytes of a connection in pieces, and gives its frames. A refusal is answered for good.
+/// Takes the bytes of a connection in pieces, and gives its frames. After a refusal it answers the same for good.
 #[derive(Drop)]
 pub struct FrameReader {
     alloc: Global,
@@ -81,8 +72,8 @@ impl Model for FrameReader {
 }
 
 impl FrameReader {
-    /// A reader to which no bytes were fed. With `preface` the client's connection preface is due before the first
-    /// frame.
+    /// A reader to which no bytes were fed. If `preface` is set, the client's connection preface has to come before the
+    /// first frame.
     pub fn new(alloc: Global, preface: bool) -> FrameReader
         ensures { result ≡ fresh preface }
     {
@@ -96,9 +87,8 @@ impl FrameReader {
         }
     }
 
-    /// Adds bytes at the end of what was fed. Without memory for them the reader refuses from then on. After want of
-    /// memory it answers so again. After any other refusal, which `OutOfMemory` can't name, it lets the bytes go and
-    /// answers `Ok`: `next` tells the refusal.
+    /// Appends bytes to those that were fed. If memory runs out, this call and `next` refuse from then on. After any
+    /// other refusal, which `OutOfMemory` can't express, it drops the bytes and answers `Ok`: `next` tells the refusal.
     pub fn feed(&mut self, bytes: &[u8]) -> Result<(), OutOfMemory>
         requires { self.old.at + (length self.old.rest + length bytes.now) ≤ 2 ^ 60 }
         ensures latched { IfSome self.old.fault (λ e. (IsErr result ↔ (e ≡ NoMemory)) × (self.new ≡ self.old)) }
@@ -116,13 +106,13 @@ impl FrameReader {
         }
     }
 
-    /// The next frame, with the place of its first byte among all bytes that were fed, from 0. `None` if the rest is
-    /// empty, or a proper prefix of the preface or of a frame: then no other byte is kept. After a refusal it answers
-    /// the same for good.
+    /// The next frame, with the place of its first byte among all bytes that were fed, counted from 0. `None` if the
+    /// rest is empty, or a proper prefix of the preface or of a frame: then only the rest is kept. After a refusal it
+    /// answers the same for good.
     pub fn next(&mut self) -> Result<Option<(u64, Frame)>, FrameFault>
         ensures latched { IfSome self.old.fault (λ e. (result ≡ Err e) × (self.new ≡ self.old)) }
         ensures exact { IsNone self.old.fault → Answers self.old self.new result }
-        // No byte is lost, so that the count of all bytes that were fed stays.
+        // No byte is lost: the count of all bytes that were fed stays the same.
         ensures count { self.new.at + length self.new.rest ≡ self.old.at + length self.old.rest }
         ensures fault { IfErr result (λ e. self.new.fault ≡ Some e) }
         ensures sound { OnOk result (self.new.fault ≡ None) }
@@ -150,14 +140,14 @@ impl FrameReader {
         }
     }
 
-    /// How many bytes were fed, but for those after a refusal.
+    /// How many bytes were fed, without those fed after a refusal.
     pub fn fed(&self) -> u64
         ensures { result ≡ self.now.at + length self.now.rest }
     {
         self.at + (self.buffer.len() - self.start) as u64
     }
 
-    /// How many bytes it keeps: those that it has not given out, and those that it has and will let go when `next`
+    /// How many bytes it keeps: those that were not given out, and those that were and will be dropped when `next`
     /// answers `None`.
     pub fn held(&self) -> u64
         ensures held { result ≡ self.now.held }
@@ -166,7 +156,8 @@ impl FrameReader {
         self.buffer.len() as u64
     }
 
-    /// The place among all bytes that were fed, from 0, of the first byte that was not given out, if there is one.
+    /// The place among all bytes that were fed, counted from 0, of the first byte that was not given out, if there is
+    /// one.
     pub fn rest_at(&self) -> Option<u64>
         ensures { result ≡ rest_place self.now }
     {
@@ -190,7 +181,7 @@ impl FrameReader {
         Ok(())
     }
 
-    /// Goes behind the preface if it is due and whole.
+    /// Goes past the preface if it is due and has come whole.
     #[tactic(auto, unfolding(crate::specs::Stream::begun))]
     fn skip_preface(&mut self)
         ensures { self.new ≡ begun self.old }
@@ -230,7 +221,7 @@ impl FrameReader {
         at
     }
 
-    /// Lets go of what was given out.
+    /// Drops what was given out.
     fn cut(&mut self)
         ensures cut { self.new ≡ cut self.old }
         ensures less { self.new.held ≤ self.old.held }

@@ -1,10 +1,11 @@
-//! Bytes from frames.
+//! The bytes of a frame.
 
 ghost use Rattle.std.specs.Prelude.{◌≡◌, ◌++◌, ◌+◌, ◌*◌, ◌<◌, ◌≤◌, ◌^◌, length, OnOk, OnErr};
 ghost use Rattle.std.specs.List.{flat_map};
 ghost use Rattle.std.specs.Int.{w32, to_be_bytes};
-ghost use Rattle.h2_frames.specs.Spelling.{header_bytes, setting, flag, framed, spelled, Writable, HasSettings, IsTyped, IsSpelling, AddsPart};
+ghost use Rattle.h2_frames.specs.Spelling.{IsStreamNumber, header_bytes, setting, flag, framed, spelled, Writable, HasSettings, IsTyped, IsSpelling, AddsPart};
 ghost use Rattle.h2_frames.specs.Reading.{IsReadAs};
+ghost use Rattle.h2_frames.specs.declared.frame.Frame.TheVariants as frames;
 
 use crate::frame::Frame;
 use crate::layout::{
@@ -127,8 +128,8 @@ fn push_frame(out: &mut Bytes, frame: &Frame) -> Result<(), OutOfMemory>
     }
 }
 
-/// Adds the frame at the end, without padding and, for HEADERS, without priority fields. Without memory for all of it a
-/// prefix of it may have been added.
+/// Appends the frame, without padding and, for HEADERS, without priority fields. If memory runs out, a prefix of it may
+/// have been added.
 pub fn write_frame(frame: &Frame, out: &mut Bytes) -> Result<(), OutOfMemory>
     requires { Writable frame.now }
     ensures ok { OnOk result (out.new ≡ out.old ++ spelled frame.now) }
@@ -138,4 +139,15 @@ pub fn write_frame(frame: &Frame, out: &mut Bytes) -> Result<(), OutOfMemory>
     ensures again { OnOk result (IsReadAs (spelled frame.now) frame.now) }
 {
     push_frame(out, frame)
+}
+
+/// Appends a DATA frame of these bytes, as `write_frame` does, with no other copy of them.
+#[tactic(auto, unfolding(crate::specs::Spelling::spelled))]
+pub fn write_data(stream: u32, bytes: &[u8], end: bool, out: &mut Bytes) -> Result<(), OutOfMemory>
+    requires stream { IsStreamNumber stream }
+    requires short { length bytes.now ≤ 16384 }
+    ensures ok { OnOk result (out.new ≡ out.old ++ spelled (frames.Data stream bytes.now (length bytes.now) end)) }
+    ensures err { OnErr result (AddsPart out.old out.new (spelled (frames.Data stream bytes.now (length bytes.now) end))) }
+{
+    push_framed(out, DATA, flag(end, END_STREAM), stream, bytes)
 }

@@ -2,6 +2,7 @@
 use Rattle.std.proofs.Common.{◌≡◌, ℕ, ◌≤◌, ◌⊎◌, inl, inr, Result, Ok, Err, List, refl, sym, ap, ◌∙◌}
 use Rattle.std.specs.Prelude.{IfOk, IfErr}
 use Rattle.proto_wire.specs.Reading.{IsBytes}
+use Rattle.proto_wire.proofs.Steps.{ok_is}
 use Rattle.hpack_tables.specs.declared.header.Header.{Header}
 use Rattle.hpack_tables.specs.declared.fault.HpackFault.{HpackFault}
 use Rattle.hpack_tables.specs.declared.fault.HpackFault.TheVariants as faults
@@ -25,12 +26,6 @@ fails (faults.ListTooLong at) read h = inr h
 abbrev Gives : Result (List Header) HpackFault → HeaderTable → Result (List Header × HeaderTable) HpackFault → Type 0
 Gives r t' read = BlockGives (λ (headers : List Header). (headers, t')) r read
 
-abbrev done : List Header × HeaderTable → Result (List Header × HeaderTable) HpackFault
-done x = Ok x
-
-same : (x y : List Header × HeaderTable) → done x ≡ done y → x ≡ y
-same x y e = cc
-
 pub found : (t t' : HeaderTable) (block : List ℕ) (r : Result (List Header) HpackFault) → IsBytes block → Gives r t' (block_at t block) → IfOk r (λ (headers : List Header). IsBlock t block headers t' × (list_size headers ≤ max_list))
 found t t' block (Ok headers) fits h = block_takes t t' block headers fits h
 found t t' block (Err e) fits h = tt
@@ -42,7 +37,7 @@ refused t t' block (Err e) fits h = elim (fails e (block_at t block) h) [ inl no
 pub only : (t t' last : HeaderTable) (block : List ℕ) (headers : List Header) (r : Result (List Header) HpackFault) → Gives r t' (block_at t block) → IsBlock t block headers last → list_size headers ≤ max_list
     → (r ≡ Err faults.OutOfMemory) ⊎ ((r ≡ Ok headers) × (t' ≡ last))
 only t t' last block headers (Ok given) h is small =
-    let e = same (given, t') (headers, last) (sym h ∙ block_again t last block headers is small) in
+    let e = ok_is (given, t') (headers, last) (sym h ∙ block_again t last block headers is small) in
     inr (ap (λ (x : List Header × HeaderTable). Ok x.0) e, ap (λ (x : List Header × HeaderTable). x.1) e)
 only t t' last block headers (Err e) h is small =
     elim (fails e (block_at t block) h) [

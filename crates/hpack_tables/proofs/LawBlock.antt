@@ -5,6 +5,7 @@ use Rattle.std.proofs.lemmas.Bool.{le-ltb, ltb-false}
 use Rattle.std.proofs.lemmas.List.{length-append}
 use Rattle.std.proofs.lemmas.List.Sums.{sum_by-cons}
 use Rattle.proto_wire.specs.Reading.{IsBytes}
+use Rattle.proto_wire.proofs.Steps.{ok_is, passed}
 use Rattle.hpack_tables.specs.declared.header.Header.{Header}
 use Rattle.hpack_tables.specs.declared.offence.Offence.{Offence}
 use Rattle.hpack_tables.specs.declared.fault.HpackFault.{HpackFault}
@@ -12,7 +13,6 @@ use Rattle.hpack_tables.specs.declared.fault.HpackFault.TheVariants as faults
 use Rattle.hpack_tables.specs.Table.{HeaderTable, size_of, list_size}
 use Rattle.hpack_tables.specs.Block.{IsBlock, AreSteps, Step, onto, max_list}
 use Rattle.hpack_tables.specs.Reading.{Given, Place, begin, size_if, goes_on, behind, with_header, go_on, representation_at, headers_from, block_at}
-use Rattle.hpack_tables.proofs.Steps.{passed}
 use Rattle.hpack_tables.proofs.LawString.{rest_bytes}
 use Rattle.hpack_tables.proofs.LawRepresentation.{TakesRepresentation, representation_takes, representation_again, representation_some}
 
@@ -30,17 +30,11 @@ went_on p (Ok g) next y h =
     let p1 = passed (ltb max_list (p.size + size_if g.header)) (faults.ListTooLong p.at) (next g) y h in
     record { g = g; read = refl; small = ltb-false _ _ p1.0; gives = p1.1 }
 
-abbrev done : List Header × HeaderTable → Result (List Header × HeaderTable) HpackFault
-done x = Ok x
-
-all_is : (x y : List Header × HeaderTable) → done x ≡ done y → x ≡ y
-all_is x y e = cc
-
 onto_ok : (h : Option Header) (r : Result (List Header × HeaderTable) HpackFault) (headers : List Header) (t' : HeaderTable) → with_header h r ≡ Ok (headers, t')
     → (later : List Header) × (r ≡ Ok (later, t')) × (headers ≡ onto h later)
 onto_ok None r headers t' e = (headers, e, refl)
 onto_ok (Some header) (Ok (later, last)) headers t' e =
-    let same = all_is (header ∷ later, last) (headers, t') e in
+    let same = ok_is (header ∷ later, last) (headers, t') e in
     let ends : last ≡ t' = ap (λ (y : List Header × HeaderTable). y.1) same in
     (later, ap (λ (t : HeaderTable). Ok (later, t)) ends, sym (ap (λ (y : List Header × HeaderTable). y.0) same))
 onto_ok (Some header) (Err f) headers t' e = absurd cc
@@ -86,7 +80,7 @@ takes_step p bytes n g headers later t' r e s =
 steps_take : (most : ℕ) (p : Place) (bytes : List ℕ) (headers : List Header) (t' : HeaderTable) → IsBytes bytes → p.size ≤ max_list
     → headers_from most p bytes ≡ Ok (headers, t') → TakesSteps p bytes headers t'
 unfolding headers_from
-steps_take most p [] headers t' fits small e = takes_none p (headers, t') small (all_is ([], p.table) (headers, t') e)
+steps_take most p [] headers t' fits small e = takes_none p (headers, t') small (ok_is ([], p.table) (headers, t') e)
 steps_take zero p (b ∷ rest) headers t' fits small e = absurd cc
 steps_take (suc most) p (b ∷ rest) headers t' fits small e =
     let w = went_on p (representation_at p.table p.may_update (b ∷ rest)) (λ g. with_header g.header (headers_from most (behind p (length (b ∷ rest) - length g.rest) g) g.rest)) (headers, t') e in

@@ -2,12 +2,13 @@
 use Rattle.std.proofs.Common.{◌≡◌, ℕ, zero, suc, ◌+◌, ◌-◌, ◌*◌, ◌/◌, ◌%◌, ◌^◌, ◌<◌, ◌≤◌, inl, inr, false, true, ltb, Ok, List, [], ◌∷◌, ◌++◌, length, refl, sym, ap, subst, arith}
 use Rattle.std.proofs.lemmas.Bool.{cases_lt, lt-ltb, le-ltb, ltb-true, ltb-false}
 use Rattle.std.proofs.Math.Nat.{pow-succ'}
-use Rattle.proto_wire.proofs.Steps.{chosen}
+use Rattle.proto_wire.specs.Wire.{Groups}
+use Rattle.proto_wire.specs.Steps.{◌>>=◌}
+use Rattle.proto_wire.proofs.Steps.{bind_ok, chosen, held_ok, ok_is}
 use Rattle.hpack_tables.specs.declared.offence.Offence.TheVariants as offences
-use Rattle.hpack_tables.specs.Integer.{Groups, IsInt, filled, groups_of, int_spelled}
+use Rattle.hpack_tables.specs.Integer.{IsInt, filled, groups_of, int_spelled}
 use Rattle.proto_wire.specs.Reading.{IsBytes}
-use Rattle.hpack_tables.specs.Reading.{◌>>=◌, groups_at, small_int, int_at}
-use Rattle.hpack_tables.proofs.Steps.{bind_ok, held_ok, ok_is}
+use Rattle.hpack_tables.specs.Reading.{groups_at, small_int, int_at}
 
 -- ---- groups
 

@@ -2,7 +2,8 @@
 use Rattle.std.proofs.Common.{◌≡◌, ℕ, zero, suc, ◌+◌, ◌<◌, ◌≤◌, inl, inr, Bool, true, cond, ltb, Result, Ok, Err, Option, Some, None, List, [], ◌∷◌, ◌++◌, length, refl, sym, ap, subst, arith, ◌∙◌, append_assoc}
 use Rattle.std.specs.Prelude.{◌&&◌}
 use Rattle.std.proofs.lemmas.Bool.{cases_lt, lt-ltb, le-ltb, ltb-true, ltb-false, and_parts}
-use Rattle.proto_wire.proofs.Steps.{chosen}
+use Rattle.proto_wire.specs.Steps.{◌>>=◌}
+use Rattle.proto_wire.proofs.Steps.{bind_ok, chosen, held_ok, ok_is}
 use Rattle.proto_wire.specs.Reading.{IsBytes}
 use Rattle.hpack_tables.specs.declared.header.Header.{Header}
 use Rattle.hpack_tables.specs.declared.offence.Offence.{Offence}
@@ -10,8 +11,7 @@ use Rattle.hpack_tables.specs.declared.offence.Offence.TheVariants as offences
 use Rattle.hpack_tables.specs.Integer.{IsInt}
 use Rattle.hpack_tables.specs.Table.{HeaderTable, header_at, with_entry, with_max}
 use Rattle.hpack_tables.specs.Block.{IsName, IsLiteral, IsRepresentation, max_table}
-use Rattle.hpack_tables.specs.Reading.{◌>>=◌, int_at, entry_or_offence, name_by, string_at, literal_at, Given, given, indexed_at, update_at, representation_at}
-use Rattle.hpack_tables.proofs.Steps.{bind_ok, held_ok, ok_is}
+use Rattle.hpack_tables.specs.Reading.{int_at, entry_or_offence, name_by, string_at, literal_at, Given, given, indexed_at, update_at, representation_at}
 use Rattle.hpack_tables.proofs.LawInt.{TakesInt, HasHigh, IsHigh, HasFirst, int_takes, int_again, int_first, first_append, int_some}
 use Rattle.hpack_tables.proofs.LawString.{TakesString, rest_bytes, string_takes, string_again}
 

@@ -3,7 +3,7 @@ use Rattle.std.proofs.Common.{◌≡◌, ℕ, suc, ◌+◌, ◌<◌, ◌≤◌, 
 use Rattle.std.proofs.lemmas.Bool.{lt-ltb, le-ltb, ltb-true, ltb-false}
 use Rattle.std.proofs.lemmas.List.{length-append, length-take-le, take-append-drop, take_at, drop_at}
 use Rattle.proto_wire.proofs.Found.{IsBytes-behind}
-use Rattle.proto_wire.proofs.Steps.{chosen}
+use Rattle.proto_wire.proofs.Steps.{bind_ok, chosen, ok_is, passed}
 use Rattle.proto_wire.specs.Reading.{IsBytes}
 use Rattle.hpack_tables.specs.declared.offence.Offence.TheVariants as offences
 use Rattle.hpack_tables.specs.Huffman.{IsHuffman, text_of}
@@ -11,7 +11,6 @@ use Rattle.hpack_tables.specs.Integer.{IsInt}
 use Rattle.hpack_tables.specs.Block.{IsString}
 use Rattle.hpack_tables.specs.Reading.{int_at, text_or_offence, is_coded, string_at}
 use Rattle.hpack_tables.proofs.HuffmanLaws.{read as huffman_read, spelled as huffman_spelled}
-use Rattle.hpack_tables.proofs.Steps.{bind_ok, passed, ok_is}
 use Rattle.hpack_tables.proofs.LawInt.{TakesInt, IsHigh, HasFirst, int_takes, int_again, int_first}
 
 -- what stands behind a front of bytes is bytes

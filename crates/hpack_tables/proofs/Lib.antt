@@ -14,7 +14,6 @@ pub mod LawRepresentation
 pub mod LawString
 pub mod Places
 pub mod Shrinks
-pub mod Steps
 pub mod HuffmanWindow
 pub mod Decoded
 pub mod Refusals

@@ -2,7 +2,8 @@
 use Rattle.std.proofs.Common.{◌≡◌, ℕ, zero, suc, ◌+◌, ◌-◌, ◌*◌, ◌%◌, ◌^◌, ◌<◌, ◌≤◌, inl, inr, Bool, cond, ltb, Option, Some, None, Result, Ok, Err, List, [], ◌∷◌, length, take, drop, ap, arith}
 use Rattle.std.specs.Prelude.{◌&&◌}
 use Rattle.std.proofs.lemmas.List.{length-drop}
-use Rattle.proto_wire.proofs.Steps.{chosen}
+use Rattle.proto_wire.specs.Steps.{◌>>=◌}
+use Rattle.proto_wire.proofs.Steps.{bind_ok, chosen, held, ok_is, passed}
 use Rattle.hpack_tables.specs.declared.header.Header.{Header}
 use Rattle.hpack_tables.specs.declared.offence.Offence.{Offence}
 use Rattle.hpack_tables.specs.declared.offence.Offence.TheVariants as offences
@@ -10,8 +11,7 @@ use Rattle.hpack_tables.specs.Huffman.{text_of}
 use Rattle.hpack_tables.specs.Integer.{filled}
 use Rattle.hpack_tables.specs.Block.{max_table}
 use Rattle.hpack_tables.specs.Table.{HeaderTable, header_at, with_entry, with_max}
-use Rattle.hpack_tables.specs.Reading.{◌>>=◌, groups_at, small_int, int_at, text_or_offence, is_coded, string_at, entry_or_offence, name_by, literal_at, Given, given, indexed_at, update_at, representation_at}
-use Rattle.hpack_tables.proofs.Steps.{bind_ok, passed, held, ok_is}
+use Rattle.hpack_tables.specs.Reading.{groups_at, small_int, int_at, text_or_offence, is_coded, string_at, entry_or_offence, name_by, literal_at, Given, given, indexed_at, update_at, representation_at}
 
 groups_shrinks : (more : ℕ) (bytes : List ℕ) (x : ℕ × List ℕ) → groups_at more bytes ≡ Ok x → length x.1 < length bytes
 unfolding groups_at

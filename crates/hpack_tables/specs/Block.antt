@@ -9,17 +9,18 @@ use Rattle.hpack_tables.specs.Table.{HeaderTable, header_at, with_entry, with_ma
 abbrev pub max_table : ℕ
 max_table = 4_096
 
--- the largest size of a header list, in bytes: of each header its name, its value and 32
+-- the largest size of a header list, in bytes: the name and the value of each header, and 32 more for each
 abbrev pub max_list : ℕ
 max_list = 16_384
 
--- A string literal (section 5.2): its length, and its bytes as they are, or by the code with the first bit set.
+-- A string literal (section 5.2): the length of its text and the text; or, with the first bit set, the length of its coded
+-- string and that string.
 abbrev pub IsString : List ℕ → List ℕ → Type 0
 IsString bytes text =
     ((front : List ℕ) × IsInt 7 0 (length text) front × (bytes ≡ front ++ text))
     ⊎ ((front : List ℕ) × (coded : List ℕ) × IsInt 7 128 (length coded) front × (bytes ≡ front ++ coded) × IsHuffman coded text)
 
--- the name of a literal: that of an entry, or a string behind index 0
+-- the name of a literal: that of an entry, or a string after index 0
 abbrev pub IsName : HeaderTable → ℕ → ℕ → List ℕ → List ℕ → Type 0
 IsName t bits high bytes name =
     ((index : ℕ) × (entry : Header) × IsInt bits high index bytes × (header_at t index ≡ Some entry) × (name ≡ entry.name))
@@ -31,7 +32,7 @@ IsLiteral t bits high bytes header =
     (front : List ℕ) × (back : List ℕ) × (bytes ≡ front ++ back) × IsName t bits high front header.name × IsString back header.value
 
 -- One representation, the header that it gives, if it gives one, and the table after it (section 6): an indexed header; a
--- literal that is added to the table; one that isn't, or never is; or a size update, where one may stand.
+-- literal that is added to the table; a literal without indexing, or never indexed; or a size update, where one may stand.
 abbrev pub IsRepresentation : HeaderTable → Bool → List ℕ → Option Header → HeaderTable → Type 0
 IsRepresentation t may_update bytes header t' =
     ((index : ℕ) × (entry : Header) × IsInt 7 128 index bytes × (header_at t index ≡ Some entry) × (header ≡ Some entry) × (t' ≡ t))

@@ -1,4 +1,4 @@
--- What this end writes: no entry is added to the peer's table, and no string is coded.
+-- What `encode_block` writes: no entry is added to the peer's table, and no string is coded.
 use Rattle.std.specs.Prelude.{◌+◌, ◌&&◌, nat_eq, ℕ, Bool, List, [], ◌∷◌, ◌++◌, length, position, flat_map, Option, Some, None, if◌then◌else◌}
 use Rattle.std.specs.Cmp.Lexicographic.{pointwise}
 use Rattle.hpack_tables.specs.declared.header.Header.{Header}
@@ -13,6 +13,7 @@ has_name name entry = pointwise nat_eq entry.name name
 abbrev pub is_header : Header → Header → Bool
 is_header header entry = has_name header.name entry && pointwise nat_eq entry.value header.value
 
+-- a string literal without the code
 unfoldable pub string_spelled : List ℕ → List ℕ
 string_spelled text = int_spelled 7 0 (length text) ++ text
 
@@ -26,11 +27,11 @@ abbrev pub header_by : Option ℕ → Header → List ℕ
 header_by None header = name_spelled (position (has_name header.name) static_entries) header.name ++ string_spelled header.value
 header_by (Some place) header = int_spelled 7 128 (place + 1)
 
--- A header that is a static entry is indexed, at its lowest index. Any other is a literal that isn't added, with the lowest
--- index of its name, or with the name spelled out.
+-- A header that is a static entry is indexed, with its lowest index. Any other is a literal without indexing, with the lowest
+-- static index of its name, or with the name spelled out.
 unfoldable pub header_spelled : Header → List ℕ
 header_spelled header = header_by (position (is_header header) static_entries) header
 
--- A block. One that is to shrink the table begins with a maximum of 0.
+-- A block. One that shrinks the table begins with a size update to 0 bytes.
 unfoldable pub block_spelled : List Header → Bool → List ℕ
 block_spelled headers shrink = (if shrink then 32 ∷ [] else []) ++ flat_map header_spelled headers

@@ -1,10 +1,10 @@
--- The code of strings (RFC 7541, section 5.2 and appendix B): the symbols of a text are its bytes, and 256 is the end symbol,
--- which no string has.
+-- The Huffman code of strings (RFC 7541, section 5.2 and appendix B): the symbols of a text are its bytes, and 256 is the end
+-- symbol, which no string has.
 use Rattle.std.specs.Prelude.{◌≡◌, ◌<◌, ◌+◌, ◌-◌, ◌*◌, ◌/◌, ◌%◌, ◌^◌, ◌==◌, ◌&&◌, nat_lt, ℕ, zero, suc, Bool, true, false, List, [], ◌∷◌, ◌++◌, length, find, flat_map, replicate, Option, Some, None, if◌then◌else◌}
 use Rattle.std.specs.List.{list_all}
 use Rattle.proto_wire.specs.Reading.{IsBytes}
 
--- the symbols by the number of bits of their codes, and those of one length in order
+-- the symbols by the length of their codes in bits, those of one length in order
 abbrev pub symbols_by_length : List (ℕ × List ℕ)
 symbols_by_length =
     (5, 48 ∷ 49 ∷ 50 ∷ 97 ∷ 99 ∷ 101 ∷ 105 ∷ 111 ∷ 115 ∷ 116 ∷ [])
@@ -65,7 +65,8 @@ abbrev pub one_length : ℕ → ℕ → List ℕ → List Code
 one_length len number [] = []
 one_length len number (symbol ∷ symbols) = record { symbol = symbol; len = len; number = number } ∷ one_length len (number + 1) symbols
 
--- Codes handed out by length, from the next number at the length before: it is shifted left by as much as the length grows.
+-- Codes handed out by length: the first number of a length is the one after the last of the length before, shifted left by as
+-- much as the length grows.
 abbrev pub handed_out : ℕ → ℕ → List (ℕ × List ℕ) → List Code
 handed_out before number [] = []
 handed_out before number (row ∷ rows) =
@@ -96,7 +97,7 @@ bits_if (Some code) = code_bits code
 unfoldable pub code_of : ℕ → List Bool
 code_of symbol = bits_if (find (λ code. code.symbol == symbol) all_codes)
 
--- The bytes are the codes of the text, and then fewer than eight one bits up to a byte's end.
+-- The bytes are the codes of the text, and then a padding of fewer than eight ones.
 pub record IsHuffman (bytes text : List ℕ) : Type 0 where
   pub ones : ℕ
   pub few : ones < 8
@@ -105,7 +106,7 @@ pub record IsHuffman (bytes text : List ℕ) : Type 0 where
 
 -- ---- the same, from the left
 
--- whether two lists of bits are one
+-- whether two lists of bits are equal
 abbrev pub same_bits : List Bool → List Bool → Bool
 same_bits [] [] = true
 same_bits [] (c ∷ cs) = false
@@ -136,7 +137,7 @@ abbrev pub by_code : Option Code → Option (List ℕ) → Option (List ℕ) →
 by_code None more next = more
 by_code (Some code) more next = behind_code code next
 
--- The text of some bits behind those that were taken and are no code yet.
+-- The text of some bits that follow others, which were taken and are no code yet.
 unfoldable pub text_behind : List Bool → List Bool → Option (List ℕ)
 text_behind taken [] = if is_padding taken then Some [] else None
 text_behind taken (bit ∷ bits) = by_code (code_with (taken ++ bit ∷ [])) (text_behind (taken ++ bit ∷ []) bits) (text_behind [] bits)

@@ -1,4 +1,4 @@
--- The codes that are looked up, and the bits that don't fill a byte yet.
+-- The codes as a table by symbol, and bits that do not fill a byte.
 use Rattle.std.specs.Prelude.{◌≡◌, ◌⊎◌, ◌<◌, ◌≤◌, ◌^◌, ℕ, Bool, true, List, ◌++◌, length, replicate, slice_index_or, Contains}
 use Rattle.hpack_tables.specs.Huffman.{Code, all_codes, number_bits}
 use Rattle.hpack_tables.specs.declared.huffman.Bits.{Bits}
@@ -6,7 +6,7 @@ use Rattle.hpack_tables.specs.declared.huffman.Bits.{Bits}
 abbrev pub bits_in : Bits → List Bool
 bits_in b = number_bits b.len b.number
 
--- as many bits as a code may have
+-- no more bits than the longest code has
 pub record IsShort (b : Bits) : Type 0 where
   pub few : b.len ≤ 30
   pub fits : b.number < 2 ^ b.len

@@ -7,13 +7,14 @@ use Rattle.hpack_tables.specs.declared.huffman.Step.{Step}
 use Rattle.hpack_tables.specs.declared.huffman.Step.TheVariants.{More, Symbol}
 use Rattle.hpack_tables.specs.declared.huffman.TheConstants.{COUNTS, SYMBOLS}
 
--- the codes with more bits than these, by how many there are of each length: at as many bits the first would have this number
+-- the codes of more than `len` bits, by how many there are of each length: the first `len` bits of the first are the number
+-- `first`
 abbrev pub codes_from : ℕ → ℕ → List ℕ → List ℕ → List Code
 codes_from len first [] symbols = []
 codes_from len first (count ∷ counts) symbols =
     one_length (len + 1) (2 * first) (take count symbols) ++ codes_from (len + 1) (2 * first + count) counts (drop count symbols)
 
--- the number behind the last of them
+-- the number after the last of them
 abbrev pub end_of : ℕ → List ℕ → ℕ
 end_of first [] = first
 end_of first (count ∷ counts) = end_of (2 * first + count) counts
@@ -22,7 +23,7 @@ end_of first (count ∷ counts) = end_of (2 * first + count) counts
 abbrev pub taken : Walk → List Bool
 taken w = number_bits w.len w.number
 
--- where a walk may stand: only longer codes begin with its bits, and there are some
+-- where a walk may stand: every code that begins with its bits is longer, and there is one
 pub record IsWalk (w : Walk) : Type 0 where
   pub few : w.len ≤ 30
   pub fits : w.number < 2 ^ w.len
@@ -36,7 +37,7 @@ abbrev pub StepsTo : Walk → Bool → Step → Type 0
 StepsTo w bit (More next) = IsWalk next × (taken next ≡ taken w ++ bit ∷ []) × (code_with (taken w ++ bit ∷ []) ≡ None)
 StepsTo w bit (Symbol symbol) = (symbol ≤ 256) × ((code : Code) × (code_with (taken w ++ bit ∷ []) ≡ Some code) × (code.symbol ≡ symbol))
 
--- a text behind another
+-- a text after another
 abbrev pub later : List ℕ → Option (List ℕ) → Option (List ℕ)
 later front None = None
 later front (Some text) = Some (front ++ text)
@@ -46,7 +47,7 @@ later front (Some text) = Some (front ++ text)
 abbrev pub bits_left : Window → List Bool
 bits_left w = number_bits w.len w.number
 
--- a code stands in front of the rest
+-- the bits are a code of this symbol, and the rest
 pub record IsFront (bits : List Bool) (symbol : ℕ) (rest : List Bool) : Type 0 where
   pub code : Code
   pub known : Contains all_codes code
@@ -60,7 +61,7 @@ pub record IsShortCode (byte symbol len : ℕ) : Type 0 where
   pub is_byte : symbol < 256
   pub code : number_bits len (byte / 2 ^ (8 - len)) ≡ code_of symbol
 
--- what the codes at the front of some bits lead to, whatever comes behind them
+-- what the codes at the front of some bits lead to, whatever bits come after them
 abbrev pub ReadsTo : List Bool → List ℕ → List ℕ → Option Window → Type 0
 ReadsTo bits old new None = (rest : List Bool) → text_behind [] (bits ++ rest) ≡ None
 ReadsTo bits old new (Some next) =

@@ -1,5 +1,6 @@
 -- Reading a block from left to right, with the first offence that is met.
-use Rattle.std.specs.Prelude.{◌≡◌, ◌+◌, ◌-◌, ◌*◌, ◌%◌, ◌^◌, ◌&&◌, nat_lt, ℕ, zero, suc, Bool, true, false, List, [], ◌∷◌, length, take, drop, Option, Some, None, Result, Ok, Err, if◌then◌else◌}
+use Rattle.std.specs.Prelude.{◌+◌, ◌-◌, ◌*◌, ◌%◌, ◌^◌, ◌&&◌, nat_lt, ℕ, zero, suc, Bool, true, false, List, [], ◌∷◌, length, take, drop, Option, Some, None, Result, Ok, Err, if◌then◌else◌}
+use Rattle.proto_wire.specs.Steps.{◌>>=◌, FailsBut, GivesBut}
 use Rattle.hpack_tables.specs.declared.header.Header.{Header}
 use Rattle.hpack_tables.specs.declared.offence.Offence.{Offence}
 use Rattle.hpack_tables.specs.declared.offence.Offence.TheVariants as offences
@@ -10,27 +11,21 @@ use Rattle.hpack_tables.specs.Integer.{filled}
 use Rattle.hpack_tables.specs.Table.{HeaderTable, size_of, header_at, with_entry, with_max}
 use Rattle.hpack_tables.specs.Block.{max_table, max_list}
 
--- the next step, where the one before gave a value
-infixl 10 ◌>>=◌
-abbrev pub ◌>>=◌ : {A B : Type 0} → Result A Offence → (A → Result B Offence) → Result B Offence
-(Ok x) >>= f = f x
-(Err e) >>= f = Err e
+-- want of memory
+abbrev pub wants_memory : Offence → Bool
+wants_memory offences.OutOfMemory = true
+wants_memory _ = false
 
--- what a refusal of the code says of what reading gives: want of memory says nothing
+-- what a refusal says of what reading gives: want of memory says nothing
 abbrev pub Fails : {Y : Type 0} → Offence → Result Y Offence → Type 0
-Fails offences.OutOfMemory read = Unit {0}
-Fails offences.Index read = read ≡ Err offences.Index
-Fails offences.Int read = read ≡ Err offences.Int
-Fails offences.Huffman read = read ≡ Err offences.Huffman
-Fails offences.Update read = read ≡ Err offences.Update
-Fails offences.Truncated read = read ≡ Err offences.Truncated
+Fails d read = FailsBut wants_memory d read
 
--- What a function of the code returned, seen by view, is what reading gives, unless memory ran out.
+-- what a function returned, seen by view, is what reading gives, unless memory ran out
 abbrev pub Gives : {X Y : Type 0} → (X → Y) → Result X Offence → Result Y Offence → Type 0
-Gives view (Ok x) read = read ≡ Ok (view x)
-Gives view (Err e) read = Fails e read
+Gives view result read = GivesBut wants_memory view result read
 
--- The groups behind a filled prefix, of which so many may still come. That there are too many is told by the byte after.
+-- The groups after a filled prefix, at most so many, and the bytes after them. Only a byte after the last of them tells that
+-- there are too many.
 unfoldable pub groups_at : ℕ → List ℕ → Result (ℕ × List ℕ) Offence
 groups_at more [] = Err offences.Truncated
 groups_at zero (b ∷ rest) = Err offences.Int
@@ -44,7 +39,7 @@ groups_at (suc more) (b ∷ rest) =
 abbrev pub small_int : ℕ × List ℕ → Result (ℕ × List ℕ) Offence
 small_int read = if nat_lt read.0 (2 ^ 32) then Ok read else Err offences.Int
 
--- the integer whose prefix of so many bits stands in the first byte, and the bytes after it
+-- the integer whose prefix is so many bits of the first byte, and the bytes after it
 unfoldable pub int_at : ℕ → List ℕ → Result (ℕ × List ℕ) Offence
 int_at bits [] = Err offences.Truncated
 int_at bits (b ∷ rest) =
@@ -135,7 +130,7 @@ fault_at at offences.Update = faults.BadUpdate at
 fault_at at offences.Truncated = faults.Truncated at
 fault_at at offences.OutOfMemory = faults.OutOfMemory
 
--- What was read of a block: so many bytes, the size of the headers, whether a size update may follow, and the table.
+-- How far a block was read: so many bytes, the size of the headers in bytes, whether a size update may follow, and the table.
 pub record Place : Type 0 where
   pub at : ℕ
   pub size : ℕ
@@ -146,15 +141,17 @@ pub record Place : Type 0 where
 abbrev pub begin : HeaderTable → Place
 begin t = record { at = 0; size = 0; may_update = true; table = t }
 
+-- the size of a header in bytes, if there is one
 abbrev pub size_if : Option Header → ℕ
 size_if None = 0
 size_if (Some header) = size_of header
 
+-- whether a size update may stand after what a representation gave
 abbrev pub goes_on : Option Header → Bool → Bool
 goes_on None may_update = may_update
 goes_on (Some header) may_update = false
 
--- the place behind a representation of which so many bytes were read
+-- the place after a representation of so many bytes
 abbrev pub behind : Place → ℕ → Given → Place
 behind p read g = record { at = p.at + read; size = p.size + size_if g.header; may_update = goes_on g.header p.may_update; table = g.table }
 
@@ -164,6 +161,7 @@ with_header None read = read
 with_header (Some header) (Ok read) = Ok (header ∷ read.0, read.1)
 with_header (Some header) (Err e) = Err e
 
+-- what follows a representation, unless it is refused or its header passes the limit
 abbrev pub go_on : Place → Result Given Offence → (Given → Result (List Header × HeaderTable) HpackFault) → Result (List Header × HeaderTable) HpackFault
 go_on p (Err e) next = Err (fault_at p.at e)
 go_on p (Ok g) next = if nat_lt max_list (p.size + size_if g.header) then Err (faults.ListTooLong p.at) else next g
@@ -180,17 +178,15 @@ headers_from (suc most) p (b ∷ rest) = go_on p (representation_at p.table p.ma
 unfoldable pub block_at : HeaderTable → List ℕ → Result (List Header × HeaderTable) HpackFault
 block_at t bytes = headers_from (length bytes) (begin t) bytes
 
--- what a refusal of the code says of what reading gives: want of memory says nothing
-abbrev pub BlockFails : {Y : Type 0} → HpackFault → Result Y HpackFault → Type 0
-BlockFails faults.OutOfMemory read = Unit {0}
-BlockFails (faults.BadIndex at) read = read ≡ Err (faults.BadIndex at)
-BlockFails (faults.BadInt at) read = read ≡ Err (faults.BadInt at)
-BlockFails (faults.BadHuffman at) read = read ≡ Err (faults.BadHuffman at)
-BlockFails (faults.BadUpdate at) read = read ≡ Err (faults.BadUpdate at)
-BlockFails (faults.Truncated at) read = read ≡ Err (faults.Truncated at)
-BlockFails (faults.ListTooLong at) read = read ≡ Err (faults.ListTooLong at)
+-- want of memory, of a block
+abbrev pub block_wants_memory : HpackFault → Bool
+block_wants_memory faults.OutOfMemory = true
+block_wants_memory _ = false
 
--- What a function of the code returned, seen by view, is what reading a block gives, unless memory ran out.
+-- what a refusal of a block says of what reading gives: want of memory says nothing
+abbrev pub BlockFails : {Y : Type 0} → HpackFault → Result Y HpackFault → Type 0
+BlockFails e read = FailsBut block_wants_memory e read
+
+-- what a function returned, seen by view, is what reading a block gives, unless memory ran out
 abbrev pub BlockGives : {X Y : Type 0} → (X → Y) → Result X HpackFault → Result Y HpackFault → Type 0
-BlockGives view (Ok x) read = read ≡ Ok (view x)
-BlockGives view (Err e) read = BlockFails e read
+BlockGives view result read = GivesBut block_wants_memory view result read

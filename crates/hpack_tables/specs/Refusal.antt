@@ -1,5 +1,5 @@
--- Where a block is refused: behind a front of representations whose headers are within the limit, at a place where none
--- stands, or one whose header passes the limit.
+-- Where a block is refused: after a prefix that is representations whose headers are within the limit, at a place where no
+-- representation stands, or one whose header passes the limit.
 use Rattle.std.specs.Prelude.{◌≡◌, ◌≢◌, ◌<◌, ◌≤◌, ◌+◌, ℕ, Bool, true, false, List, [], ◌∷◌, ◌++◌, length, Option, Some, None}
 use Rattle.hpack_tables.specs.declared.fault.HpackFault.{HpackFault}
 use Rattle.hpack_tables.specs.declared.fault.HpackFault.TheVariants as faults
@@ -7,7 +7,7 @@ use Rattle.hpack_tables.specs.declared.header.Header.{Header}
 use Rattle.hpack_tables.specs.Block.{AreSteps, IsRepresentation, Step, max_list}
 use Rattle.hpack_tables.specs.Table.{HeaderTable, list_size, size_of}
 
--- the place of a refusal in the block; want of memory has none
+-- the place of a refusal in the block, in bytes; want of memory has none
 abbrev pub place_of : HpackFault → Option ℕ
 place_of (faults.BadIndex at) = Some at
 place_of (faults.BadInt at) = Some at
@@ -17,17 +17,17 @@ place_of (faults.Truncated at) = Some at
 place_of (faults.ListTooLong at) = Some at
 place_of faults.OutOfMemory = None
 
--- whether a size update may stand behind these headers
+-- whether a size update may stand after these headers
 abbrev pub may_update_behind : List Header → Bool
 may_update_behind [] = true
 may_update_behind (header ∷ headers) = false
 
--- no representation stands in front of these bytes
+-- these bytes begin with no representation
 abbrev pub HasNone : HeaderTable → Bool → List ℕ → Type 0
 HasNone t may_update bytes =
     (front : List ℕ) (rest : List ℕ) (header : Option Header) (t' : HeaderTable) → bytes ≡ front ++ rest → IsRepresentation t may_update front header t' → ⊥
 
--- one stands there, and its header and those before it, of this size, are above the limit
+-- they begin with one, and its header and those before it, which have this size in bytes, are above the limit
 pub record HasLarge (t : HeaderTable) (may_update : Bool) (size : ℕ) (bytes : List ℕ) : Type 0 where
   pub front : List ℕ
   pub rest : List ℕ
@@ -47,7 +47,7 @@ Offends t may_update size bytes (faults.Truncated at) = HasNone t may_update byt
 Offends t may_update size bytes (faults.ListTooLong at) = HasLarge t may_update size bytes
 Offends t may_update size bytes faults.OutOfMemory = ⊥
 
--- A block is refused behind its longest front that is representations with headers within the limit.
+-- A block is refused after its longest prefix that is representations whose headers are within the limit.
 pub record IsRefusal (t : HeaderTable) (block : List ℕ) (fault : HpackFault) : Type 0 where
   pub front : List ℕ
   pub rest : List ℕ

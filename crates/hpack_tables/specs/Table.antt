@@ -7,7 +7,7 @@ use Rattle.hpack_tables.specs.declared.header.Header.{Header}
 abbrev pub entry_of : List ℕ → List ℕ → Header
 entry_of name value = record { name = name; value = value }
 
--- the static table, from index 1; an entry without a value has an empty one
+-- the static table, from index 1 on; an entry without a value has an empty value
 unfoldable pub static_entries : List Header
 static_entries =
     entry_of (codes ":authority") []
@@ -86,11 +86,11 @@ new_table max = record { entries = []; max = max }
 abbrev pub size_of : Header → ℕ
 size_of header = length header.name + length header.value + 32
 
--- the size of a list of headers
+-- the size of a list of headers in bytes
 abbrev pub list_size : List Header → ℕ
 list_size headers = sum_by size_of headers
 
--- As many entries from the newest on as are together no larger than this, in bytes: the oldest are evicted.
+-- As many entries from the newest on as have together at most `max` bytes: the oldest are evicted.
 unfoldable pub fitting : ℕ → List Header → List Header
 fitting max [] = []
 fitting max (entry ∷ entries) = if nat_le (size_of entry) max then entry ∷ fitting (max - size_of entry) entries else []
@@ -99,17 +99,17 @@ fitting max (entry ∷ entries) = if nat_le (size_of entry) max then entry ∷ f
 abbrev pub with_entry : HeaderTable → Header → HeaderTable
 with_entry t header = record t { entries = fitting t.max (header ∷ t.entries) }
 
--- another maximum size (section 4.3)
+-- another maximum size, in bytes (section 4.3)
 abbrev pub with_max : HeaderTable → ℕ → HeaderTable
 with_max t max = record { entries = fitting max t.entries; max = max }
 
--- the entry of an index: the static table, and behind it the dynamic one; there is none of index 0
+-- the entry of an index: the static table, and after it the dynamic one; index 0 has none
 unfoldable pub header_at : HeaderTable → ℕ → Option Header
 header_at t zero = None
 header_at t (suc place) = slice_get (static_entries ++ t.entries) place
 
--- What the blocks of a connection in one direction are decoded with: the dynamic table, and the refusal of a block, if one
--- was refused.
+-- What the blocks of one direction of a connection are decoded with: the dynamic table, and the refusal of a block, if one was
+-- refused.
 pub record TableState : Type 0 where
   pub dynamic : HeaderTable
   pub refusal : Option HpackFault

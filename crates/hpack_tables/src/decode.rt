@@ -12,10 +12,10 @@ use crate::representation::representation_in;
 use proto_wire::OutOfMemory;
 use std::alloc::Global;
 
-/// The largest size of a header list, in bytes: of each header its name, its value and 32.
+/// The largest size of a header list, in bytes: the name and the value of each header, and 32 more for each.
 const MAX_LIST: usize = 16_384;
 
-/// The headers of a block, in order, and the table after them; the first representation that is malformed refuses it.
+/// Decodes a block into its headers, in order, and updates the table. The first malformed representation refuses the block.
 pub(crate) fn read_block(
     alloc: Global,
     table: &mut DynamicTable,
@@ -44,7 +44,7 @@ pub(crate) fn read_block(
     Ok(Headers::from_vec(headers))
 }
 
-/// The size of some headers and one more, if there is one; None above the limit.
+/// The size of a list in bytes with one more header, if there is one; `None` above the limit.
 fn size_with(size: usize, header: &Option<Header>) -> Option<usize>
     requires { size ≤ max_list }
     ensures { result ≡ (if nat_lt max_list (size + size_if header.now) then None else Some (size + size_if header.now)) }
@@ -58,7 +58,7 @@ fn size_with(size: usize, header: &Option<Header>) -> Option<usize>
     }
 }
 
-/// Whether a size update may follow a representation.
+/// Whether a size update may stand after a representation: not after one that gives a header.
 fn still_may(header: &Option<Header>, may_update: bool) -> bool
     ensures { result ≡ goes_on header.now may_update }
 {

@@ -38,7 +38,7 @@ impl Model for DynamicTable {
 }
 
 impl DynamicTable {
-    /// A table without entries. It takes no memory.
+    /// An empty table of at most `max` bytes. It takes no memory.
     pub(crate) fn new(alloc: Global, max: u32) -> DynamicTable
         requires { max ≤ max_table }
         ensures { result ≡ new_table max }
@@ -51,7 +51,7 @@ impl DynamicTable {
         }
     }
 
-    /// The name and the value at an index: from 1 on in the static table, and behind it in this one.
+    /// The name and the value at an index. The static table has the indexes from 1 on, and this table those after it.
     pub(crate) fn header_at(&self, index: usize) -> Option<(&[u8], &[u8])>
         ensures { option_map (λ entry. entry_of entry.0.now entry.1.now) result ≡ header_at self.now index }
     {
@@ -67,8 +67,8 @@ impl DynamicTable {
         }
     }
 
-    /// Adds a copy of a header, once the oldest entries are evicted for which it leaves no room. A header that is larger
-    /// than the table empties it (section 4.4).
+    /// Evicts the oldest entries until a header fits, and adds a copy of it. A header that is larger than the table empties
+    /// it (section 4.4).
     pub(crate) fn add(&mut self, header: &Header) -> Result<(), OutOfMemory>
         ensures { OnOk result (self.new ≡ with_entry self.old header.now) }
     {
@@ -87,7 +87,7 @@ impl DynamicTable {
         }
     }
 
-    /// Sets the maximum size, and evicts the oldest entries until the others fit (section 4.3). It takes no memory.
+    /// Sets the maximum size in bytes, and evicts the oldest entries until the others fit (section 4.3). It takes no memory.
     pub(crate) fn resize(&mut self, max: u32)
         requires { max ≤ max_table }
         ensures { self.new ≡ with_max self.old max }
@@ -96,7 +96,7 @@ impl DynamicTable {
         self.max = max as usize;
     }
 
-    // Evicts the oldest entries until the size of the others is at most this.
+    // Evicts the oldest entries until the others have at most `most` bytes.
     fn evict(&mut self, most: usize)
         ensures { self.new ≡ record self.old { entries = fitting most self.old.entries } }
     {

@@ -14,7 +14,7 @@ use std::alloc::Global;
 /// A size update to 0 bytes.
 const SHRINK: u8 = 0x20;
 
-/// Appends the name of a literal that isn't added.
+/// Appends the name of a literal that is not added to the table.
 fn push_name(out: &mut Vec<u8>, name: &[u8]) -> Result<(), OutOfMemory>
     ensures { OnOk result (out.new.items ≡ out.old.items ++ name_spelled (position (has_name name.now) static_entries) name.now) }
 {
@@ -27,7 +27,7 @@ fn push_name(out: &mut Vec<u8>, name: &[u8]) -> Result<(), OutOfMemory>
     }
 }
 
-/// Appends a header.
+/// Appends the representation of a header.
 #[tactic(auto, unfolding(crate::specs::Encoding::header_spelled))]
 fn push_header(out: &mut Vec<u8>, header: &Header) -> Result<(), OutOfMemory>
     ensures { OnOk result (out.new.items ≡ out.old.items ++ header_spelled header.now) }
@@ -39,8 +39,8 @@ fn push_header(out: &mut Vec<u8>, header: &Header) -> Result<(), OutOfMemory>
     push_string(out, header.value.as_slice())
 }
 
-/// The block of some headers. It adds nothing to the peer's dynamic table; with `shrink` it begins with a size update to 0,
-/// which empties that.
+/// Encodes headers as a block. It adds nothing to the peer's dynamic table; with `shrink` it begins with a size update to 0
+/// bytes, which empties that table.
 #[tactic(auto, unfolding(crate::specs::Encoding::block_spelled))]
 pub fn encode_block(alloc: Global, headers: &Headers, shrink: bool) -> Result<Bytes, OutOfMemory>
     ensures { IfOk result (λ block. block ≡ block_spelled headers.now shrink) }

@@ -8,21 +8,22 @@ use crate::offence::Offence;
 use proto_wire::OutOfMemory;
 use std::alloc::{AllocError, AllocFailed};
 
-/// Why a block is refused. `at` is the place of the first byte of the representation that is malformed, in bytes from the
-/// beginning of the block.
+/// Why a block is refused. `at` is the place of the first byte of the representation that is at fault, in bytes from the
+/// start of the block.
 #[derive(Clone, Copy, Debug, PartialEq, Eq)]
 pub enum HpackFault {
     /// The index has no entry.
     BadIndex { at: usize },
-    /// An integer is above 2^32 - 1, or has more than five further bytes.
+    /// An integer is above 2^32 - 1, or has more than five bytes after its prefix.
     BadInt { at: usize },
-    /// A coded string is malformed: it has the end symbol, or doesn't end with fewer than eight ones behind a code.
+    /// A string in Huffman code is malformed: it has the end symbol, or its last code is not followed by fewer than eight ones.
     BadHuffman { at: usize },
-    /// A size update stands behind a header, or is to more than 4,096 bytes.
+    /// A size update follows a header, or sets a maximum above 4,096 bytes.
     BadUpdate { at: usize },
     /// The block ends inside the representation.
     Truncated { at: usize },
-    /// The headers up to this one have more than 16,384 bytes: of each its name, its value and 32.
+    /// The headers up to and including this one have more than 16,384 bytes, 32 of them for each header besides its name and
+    /// its value.
     ListTooLong { at: usize },
     OutOfMemory,
 }
@@ -52,7 +53,7 @@ impl<T: Drop> From<AllocFailed<T>> for HpackFault {
 }
 
 impl HpackFault {
-    /// An offence at a place.
+    /// The fault of an offence at a place.
     pub(crate) fn at(at: usize, offence: Offence) -> HpackFault
         ensures { result ≡ fault_at at offence }
     {

@@ -6,7 +6,7 @@ ghost use Rattle.hpack_tables.specs.Table.{entry_of, size_of};
 use proto_wire::{Bytes, Listed, OutOfMemory};
 use std::alloc::Global;
 
-/// What the size of a header counts besides its name and its value, in bytes (RFC 7541, section 4.1).
+/// How many bytes the size of a header has besides its name and its value (RFC 7541, section 4.1).
 pub(crate) const OVERHEAD: usize = 32;
 
 /// A header: its name and its value, as bytes.
@@ -16,11 +16,11 @@ pub struct Header {
     pub value: Bytes,
 }
 
-/// Headers, seen as the list of them.
+/// Headers, in order.
 pub type Headers = Listed<Header>;
 
 impl Header {
-    /// Its size in bytes, if that is at most `most`.
+    /// The size in bytes, if it is at most `most`.
     pub(crate) fn size_within(&self, most: usize) -> Option<usize>
         ensures { result ≡ (if nat_le (size_of self.now) most then Some (size_of self.now) else None) }
     {

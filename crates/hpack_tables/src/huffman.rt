@@ -1,5 +1,5 @@
-//! The code of strings (RFC 7541, section 5.2). A code of at most eight bits is looked up by its first byte; a longer one is
-//! walked bit by bit, with the number that the first code of each length has.
+//! The Huffman code of strings (RFC 7541, section 5.2). A code of at most eight bits is looked up by the byte that begins with
+//! it; a longer one is walked bit by bit, with the number of the first code of each length.
 
 ghost use Rattle.std.specs.Prelude.{◌≡◌, ◌⊎◌, ◌<◌, ◌≤◌, ◌+◌, ◌-◌, ◌^◌, ◌++◌, List, [], length, take, drop, slice_index, if◌then◌else◌, Some, None, IfOk, IfErr, OnOk, All, MatchOption};
 ghost use Rattle.hpack_tables.specs.declared.fault.HpackFault.TheVariants.{OutOfMemory as NoMemory, BadHuffman};
@@ -18,7 +18,7 @@ const COUNTS: [u32; 30] = [
     0, 4,
 ];
 
-/// The symbols in the order of their codes, the short ones first. 256 is the end symbol.
+/// The symbols in the order of their codes, those of the shortest codes first. 256 is the end symbol.
 const SYMBOLS: [u16; 257] = [
     // 5 bits
     48, 49, 50, 97, 99, 101, 105, 111, 115, 116,
@@ -81,8 +81,8 @@ const LONGEST: u32 = 30;
 /// A padding has fewer bits than this.
 const PADDING: u32 = 8;
 
-/// Where the walk stands within a code: the bits that were taken, as a number, and how many; the number that the first of
-/// the longer codes would have at as many bits; and the place of its symbol.
+/// Where a walk stands within a code: the bits that it took, as a number, and how many; as many bits of the first of the
+/// longer codes, as a number; and the place of the symbol of that code.
 #[derive(Clone, Copy)]
 struct Walk {
     number: u32,
@@ -99,7 +99,7 @@ const BEGIN: Walk = Walk {
     at: 0,
 };
 
-/// Behind seven ones, with which each code of more than eight bits begins.
+/// After seven ones, with which every code of more than eight bits begins.
 const SEVEN_ONES: Walk = Walk {
     number: 127,
     len: 7,
@@ -115,14 +115,14 @@ enum Step {
     Symbol(u16),
 }
 
-/// The number of a bit.
+/// A bit as a number.
 fn number_of(bit: bool) -> u32
     ensures { result ≡ (if bit then 1 else 0) }
 {
     u32::from(bit)
 }
 
-/// How many codes have one bit more than this.
+/// How many codes have `len + 1` bits.
 fn count_at(len: u32) -> u32
     requires { len < 30 }
     ensures { result ≡ slice_index COUNTS len }
@@ -130,7 +130,7 @@ fn count_at(len: u32) -> u32
     COUNTS[len as usize]
 }
 
-/// The symbol whose code is at this place.
+/// The symbol at a place in the order of the codes.
 fn symbol_at(at: usize) -> u16
     requires { at < 257 }
     ensures { result ≡ slice_index SYMBOLS at }
@@ -138,7 +138,7 @@ fn symbol_at(at: usize) -> u16
     SYMBOLS[at]
 }
 
-/// The step of one more bit.
+/// The step of a walk by one more bit.
 fn next_bit(walk: Walk, bit: bool) -> Step
     requires { IsWalk walk }
     ensures { StepsTo walk bit result }
@@ -157,7 +157,7 @@ fn next_bit(walk: Walk, bit: bool) -> Step
     })
 }
 
-/// Bits of a string that are not read yet: the last `len` bits of a number.
+/// Bits of a string that are not read yet: the lowest `len` bits of a number.
 #[derive(Clone, Copy)]
 struct Window {
     number: u64,
@@ -167,14 +167,14 @@ struct Window {
 /// No bits.
 const EMPTY: Window = Window { number: 0, len: 0 };
 
-/// Adds bytes to a window, four or one: the window, and the bytes that are left.
+/// Adds four bytes to a window, or one if fewer than four are left: the new window, and the bytes after them.
 fn refilled(window: Window, bytes: &[u8]) -> (Window, &[u8])
     requires { window.len < 30 }
     ensures few { result.0.len < 62 }
     ensures bits { bits_left result.0 ++ bits_of result.1.now ≡ bits_left window ++ bits_of bytes.now }
     ensures less { 0 < length bytes.now → length result.1.now < length bytes.now }
 {
-    // Higher bits than those of the window count for nothing.
+    // The bits above the lowest `len` are no part of the window.
     let number = window.number % (1 << LONGEST);
     match bytes {
         [a, b, c, d, rest @ ..] => {
@@ -202,7 +202,7 @@ fn refilled(window: Window, bytes: &[u8]) -> (Window, &[u8])
     }
 }
 
-/// The code of more than eight bits at the front of a window: its symbol, and the bits behind it.
+/// The code of more than eight bits at the front of a window: its symbol, and the bits after it.
 fn walked_code(window: Window) -> (u16, Window)
     requires enough { 30 ≤ window.len }
     requires few { window.len < 62 }
@@ -227,7 +227,7 @@ fn walked_code(window: Window) -> (u16, Window)
     }
 }
 
-/// The code at the front of a window: its symbol, and the bits behind it. None where the window may be a part of one.
+/// The code at the front of a window: its symbol, and the bits after it. `None` if the window may have only a part of it.
 fn next_code(window: Window) -> Option<(u16, Window)>
     requires { window.len < 62 }
     ensures { MatchOption result (window.len < 30) (λ x. IsFront (bits_left window) x.0 (bits_left x.1) × (x.1.len < window.len)) }
@@ -248,7 +248,8 @@ fn next_code(window: Window) -> Option<(u16, Window)>
     Some(walked_code(window))
 }
 
-/// Reads the codes at the front of a window, and adds their symbols. What is left of it, or None at the end symbol.
+/// Reads the codes at the front of a window and appends their symbols. It gives what is left of the window, or `None` at the
+/// end symbol.
 fn read_codes(from: Window, text: &mut Vec<u8>) -> Result<Option<Window>, OutOfMemory>
     requires { from.len < 62 }
     ensures { IfOk result (λ next. ReadsTo (bits_left from) text.old.items text.new.items next) }
@@ -264,14 +265,14 @@ fn read_codes(from: Window, text: &mut Vec<u8>) -> Result<Option<Window>, OutOfM
     Ok(Some(window))
 }
 
-/// Whether the bits of a window are a padding: ones, and fewer than eight.
+/// Whether the bits of a window are a padding: fewer than eight, and all of them ones.
 fn is_padded(window: Window) -> bool
     ensures { result ≡ is_padding (bits_left window) }
 {
     window.len < PADDING && window.number % (1 << window.len) + 1 == 1 << window.len
 }
 
-/// Reads the last bits of a string, and adds the symbols that end in them. Whether the others are a padding.
+/// Reads the last bits of a string and appends the symbols whose codes they have. Whether the bits after these are a padding.
 fn read_last(window: Window, text: &mut Vec<u8>) -> Result<bool, OutOfMemory>
     requires { window.len < 30 }
     ensures { IfOk result (λ whole. later text.old.items (text_behind [] (bits_left window)) ≡ (if whole then Some text.new.items else None)) }
@@ -297,7 +298,7 @@ fn read_last(window: Window, text: &mut Vec<u8>) -> Result<bool, OutOfMemory>
     Ok(is_padded(walked(walk)))
 }
 
-/// The bits that a walk took.
+/// The bits that a walk took, as a window.
 fn walked(walk: Walk) -> Window
     ensures { bits_left result ≡ taken walk }
 {
@@ -307,7 +308,7 @@ fn walked(walk: Walk) -> Window
     }
 }
 
-/// The text of a coded string, or None where it is malformed.
+/// The text of a coded string, or `None` if the string is malformed.
 pub(crate) fn text_in(alloc: Global, bytes: &[u8]) -> Result<Option<Bytes>, OutOfMemory>
     ensures { IfOk result (λ text. text ≡ text_of bytes.now) }
 {
@@ -331,7 +332,7 @@ pub(crate) fn text_in(alloc: Global, bytes: &[u8]) -> Result<Option<Bytes>, OutO
     }
 }
 
-/// The text of a coded string. One that is malformed is `BadHuffman` at 0.
+/// The text of a coded string. A malformed string is refused with `BadHuffman` at 0.
 pub fn huffman_decode(alloc: Global, bytes: &[u8]) -> Result<Bytes, HpackFault>
     ensures ok { IfOk result (λ text. text_of bytes.now ≡ Some text) }
     ensures err { IfErr result (λ e. (e ≡ NoMemory) ⊎ ((e ≡ BadHuffman 0) × (text_of bytes.now ≡ None))) }
@@ -352,7 +353,7 @@ struct Bits {
 /// No bits.
 const NO_BITS: Bits = Bits { number: 0, len: 0 };
 
-/// The symbols whose codes are at these places.
+/// So many symbols in the order of their codes, from a place on.
 fn symbols_at(at: usize, count: usize) -> &'static [u16]
     requires { at + count ≤ 257 }
     ensures { result.now ≡ take count (drop at SYMBOLS) }
@@ -360,7 +361,7 @@ fn symbols_at(at: usize, count: usize) -> &'static [u16]
     &SYMBOLS[at..at + count]
 }
 
-/// Sets the codes of the symbols of one length, from the first number on.
+/// Sets the codes of some symbols. The codes have `len` bits, and their numbers are `first` and those after it, in order.
 fn set_codes(codes: &mut [Bits], len: u32, first: u32, symbols: &[u16])
     requires enough { length codes.old ≡ 257 }
     requires symbols { All (λ symbol. symbol < 257) symbols.now }
@@ -374,7 +375,7 @@ fn set_codes(codes: &mut [Bits], len: u32, first: u32, symbols: &[u16])
     }
 }
 
-/// The codes of the symbols.
+/// The code of each symbol.
 fn codes_by_symbol() -> [Bits; 257]
     ensures { IsSetBut result [] }
 {
@@ -391,7 +392,7 @@ fn codes_by_symbol() -> [Bits; 257]
     codes
 }
 
-/// Appends a code behind bits that don't fill a byte yet, and gives those that don't after it.
+/// Appends a code after bits that do not fill a byte. It gives the bits that do not fill a byte then.
 fn push_code(out: &mut Vec<u8>, before: Bits, code: Bits) -> Result<Bits, OutOfMemory>
     requires before { IsRest before }
     requires code { IsShort code }
@@ -409,7 +410,7 @@ fn push_code(out: &mut Vec<u8>, before: Bits, code: Bits) -> Result<Bits, OutOfM
     })
 }
 
-/// Appends the bits that don't fill a byte, padded with ones.
+/// Appends bits that do not fill a byte, padded with ones.
 fn push_rest(out: &mut Vec<u8>, rest: Bits) -> Result<(), OutOfMemory>
     requires { IsRest rest }
     ensures { OnOk result (IsPadded (bits_of out.new.items) (bits_of out.old.items ++ bits_in rest)) }
@@ -422,7 +423,7 @@ fn push_rest(out: &mut Vec<u8>, rest: Bits) -> Result<(), OutOfMemory>
     Ok(())
 }
 
-/// The coded string of a text.
+/// The coded string that spells a text.
 pub fn huffman_encode(alloc: Global, bytes: &[u8]) -> Result<Bytes, OutOfMemory>
     ensures { IfOk result (λ coded. IsHuffman coded bytes.now) }
 {

@@ -7,7 +7,7 @@ ghost use Rattle.hpack_tables.specs.Reading.{Gives, groups_at, int_at};
 use crate::offence::Offence;
 use proto_wire::OutOfMemory;
 
-/// The value of the groups behind a filled prefix, at most `more` of them, and the bytes after them.
+/// The value of the groups of seven bits after a filled prefix, at most `more` of them, and the bytes after them.
 #[tactic(auto, unfolding(crate::specs::Reading::groups_at))]
 fn groups_in(more: u8, bytes: &[u8]) -> Result<(u64, &[u8]), Offence>
     requires { more ≤ 5 }
@@ -29,7 +29,7 @@ fn groups_in(more: u8, bytes: &[u8]) -> Result<(u64, &[u8]), Offence>
     }
 }
 
-/// The integer whose prefix of so many bits stands in the first byte, and the bytes after it.
+/// The integer whose prefix is the last `bits` bits of the first byte, and the bytes after it.
 #[tactic(auto, unfolding(crate::specs::Reading::int_at))]
 pub(crate) fn int_in(bits: u8, bytes: &[u8]) -> Result<(u32, &[u8]), Offence>
     requires some { 4 ≤ bits }
@@ -66,7 +66,7 @@ fn push_groups(out: &mut Vec<u8>, most: u8, n: u64) -> Result<(), OutOfMemory>
     push_groups(out, most - 1, n / 128)
 }
 
-/// Appends an integer with a prefix of `bits` bits, below the higher bits `high`.
+/// Appends an integer with a prefix of `bits` bits. `high` is the value of the higher bits of the first byte.
 #[tactic(auto, unfolding(crate::specs::Integer::int_spelled))]
 pub(crate) fn push_int(out: &mut Vec<u8>, bits: u8, high: u8, value: u64) -> Result<(), OutOfMemory>
     requires some { 4 ≤ bits }

@@ -1,5 +1,5 @@
-//! HPACK (RFC 7541): header blocks become lists of headers by their grammar and the table of the connection, and lists of
-//! headers become blocks. It knows no frames: the session above it gives whole blocks, in order.
+//! HPACK (RFC 7541): header blocks are decoded into lists of headers with the table of their connection, and lists of headers
+//! are encoded as blocks. It knows no frames: its caller passes whole blocks, in order.
 #![tactic(auto)]
 
 mod decode;

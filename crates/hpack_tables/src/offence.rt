@@ -11,11 +11,11 @@ use std::alloc::{AllocError, AllocFailed};
 pub(crate) enum Offence {
     /// The index has no entry.
     Index,
-    /// An integer is above 2^32 - 1, or has more than five further bytes.
+    /// An integer is above 2^32 - 1, or has more than five bytes after its prefix.
     Int,
-    /// A coded string is malformed: it has the end symbol, or doesn't end with fewer than eight ones behind a code.
+    /// A string in Huffman code is malformed: it has the end symbol, or its last code is not followed by fewer than eight ones.
     Huffman,
-    /// A size update stands behind a header, or is to more than 4,096 bytes.
+    /// A size update follows a header, or sets a maximum above 4,096 bytes.
     Update,
     /// The block ends inside the representation.
     Truncated,

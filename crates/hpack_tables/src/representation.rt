@@ -14,7 +14,7 @@ use std::alloc::Global;
 /// The largest maximum size of the dynamic table, in bytes.
 const MAX_TABLE: u32 = 4_096;
 
-/// The name of a literal by its index, and the bytes after it.
+/// The name of a literal, that of an entry or a string after index 0, and the bytes after it.
 fn name_in<'a>(
     alloc: Global,
     table: &DynamicTable,
@@ -32,7 +32,7 @@ fn name_in<'a>(
     }
 }
 
-/// A literal whose index has a prefix of so many bits, and the bytes after it.
+/// A literal whose index has a prefix of `bits` bits, and the bytes after it.
 #[tactic(auto, unfolding(crate::specs::Reading::literal_at))]
 fn literal_in<'a>(
     alloc: Global,
@@ -66,7 +66,7 @@ fn indexed_in<'a>(
     }
 }
 
-/// A size update, and the bytes after it.
+/// Takes a size update, and gives the bytes after it.
 #[tactic(auto, unfolding(crate::specs::Reading::update_at))]
 fn update_in<'a>(
     table: &mut DynamicTable,
@@ -83,7 +83,7 @@ fn update_in<'a>(
     Ok(rest)
 }
 
-/// One representation: the header that it gives, if it gives one, and the bytes after it.
+/// Takes one representation: the header that it gives, if it gives one, and the bytes after it.
 #[tactic(auto, unfolding(crate::specs::Reading::representation_at))]
 pub(crate) fn representation_in<'a>(
     alloc: Global,

@@ -1,5 +1,5 @@
-//! The codes of at most eight bits (RFC 7541, appendix B), by the byte that begins with them. Nearly all text in headers is
-//! in such codes.
+//! The codes of at most eight bits (RFC 7541, appendix B), by the byte that begins with them. Nearly all text in headers has
+//! only such codes.
 
 ghost use Rattle.std.specs.Prelude.{◌≤◌, MatchOption};
 ghost use Rattle.hpack_tables.specs.HuffmanWalk.{IsShortCode};

@@ -7,7 +7,7 @@ ghost use Rattle.hpack_tables.specs.Encoding.{has_name, is_header};
 
 use crate::header::Header;
 
-/// The entries, from index 1; one without a value has an empty one.
+/// The entries, from index 1 on. One without a value has an empty value.
 const STATIC: [(&str, &str); 61] = [
     (":authority", ""),
     (":method", "GET"),
@@ -102,28 +102,28 @@ fn is_same(entry: &(&str, &str), header: &Header) -> bool
     is_named(entry, header.name.as_slice()) && entry.1.as_bytes() == header.value.as_slice()
 }
 
-/// The place of the first of some entries that has this name.
+/// The place of the first entry of a list that has this name, from 0.
 fn first_named(list: &[(&str, &str)], name: &[u8]) -> Option<usize>
     ensures { result ≡ position (λ entry. has_name name.now (entry_of entry.0.now entry.1.now)) list.now }
 {
     list.iter().position(|entry| is_named(entry, name))
 }
 
-/// The place of the first of some entries that is this header.
+/// The place of the first entry of a list that is this header, from 0.
 fn first_same(list: &[(&str, &str)], header: &Header) -> Option<usize>
     ensures { result ≡ position (λ entry. is_header header.now (entry_of entry.0.now entry.1.now)) list.now }
 {
     list.iter().position(|entry| is_same(entry, header))
 }
 
-/// The place of the first entry that is this header.
+/// The place of the first static entry that is this header, from 0.
 pub(crate) fn place_of(header: &Header) -> Option<usize>
     ensures { result ≡ position (is_header header.now) static_entries }
 {
     first_same(entries(), header)
 }
 
-/// The place of the first entry with this name.
+/// The place of the first static entry that has this name, from 0.
 pub(crate) fn place_of_name(name: &[u8]) -> Option<usize>
     ensures { result ≡ position (has_name name.now) static_entries }
 {

@@ -20,7 +20,7 @@ fn is_coded(bytes: &[u8]) -> bool
     }
 }
 
-/// A string literal, and the bytes after it. It takes memory only for bytes that are there.
+/// A string literal, and the bytes after it. It takes memory only once all its bytes are there.
 #[tactic(auto, unfolding(crate::specs::Reading::string_at))]
 pub(crate) fn string_in(alloc: Global, bytes: &[u8]) -> Result<(Bytes, &[u8]), Offence>
     ensures { Gives (λ x. (x.0, x.1.now)) result (string_at bytes.now) }
@@ -40,7 +40,7 @@ pub(crate) fn string_in(alloc: Global, bytes: &[u8]) -> Result<(Bytes, &[u8]), O
     }
 }
 
-/// Appends a string literal that isn't coded.
+/// Appends a string literal without the code.
 #[tactic(auto, unfolding(crate::specs::Encoding::string_spelled))]
 pub(crate) fn push_string(out: &mut Vec<u8>, text: &[u8]) -> Result<(), OutOfMemory>
     ensures { OnOk result (out.new.items ≡ out.old.items ++ string_spelled text.now) }

@@ -16,8 +16,8 @@ use crate::header::Headers;
 use std::alloc::Global;
 use std::marker::Model;
 
-/// What the blocks of a connection in one direction are decoded with: the dynamic table, and the refusal of a block, if
-/// one was refused.
+/// What the blocks of one direction of a connection are decoded with: the dynamic table, and the refusal of a block, if one
+/// was refused.
 #[derive(Debug, Drop)]
 pub struct Table {
     dynamic: DynamicTable,
@@ -33,7 +33,7 @@ impl Model for Table {
 }
 
 impl Table {
-    /// A table without entries, of at most `max` bytes. It takes no memory.
+    /// An empty table of at most `max` bytes. It takes no memory.
     pub fn new(alloc: Global, max: u32) -> Table
         requires { max ≤ max_table }
         ensures { result ≡ unrefused (new_table max) }
@@ -45,11 +45,11 @@ impl Table {
     }
 }
 
-/// The headers of a block, in order, by the table, which becomes that of the next block. The first representation that is
-/// malformed refuses the block, and a table that refused one answers that refusal for good: what the peer's encoder has in
-/// its table is not known then (RFC 7541, section 2.2).
+/// Decodes a block into its headers, in order, and updates the table for the next block. The first malformed representation
+/// refuses the block. A table that refused a block answers that refusal from then on, since it may no longer be the table of
+/// the peer's encoder (RFC 7541, section 2.2).
 pub fn decode_block(alloc: Global, table: &mut Table, block: &[u8]) -> Result<Headers, HpackFault>
-    // what the grammar and the table relate to the block
+    // the headers that the grammar relates to the block by the table
     ensures found { IfOk result (λ headers. IsBlock table.old.dynamic block.now headers table.new.dynamic × (list_size headers ≤ max_list)) }
     ensures only { (headers : List Header) (t : HeaderTable) → table.old.refusal ≡ None → IsBlock table.old.dynamic block.now headers t → list_size headers ≤ max_list → (result ≡ Err NoMemory) ⊎ ((result ≡ Ok headers) × (table.new.dynamic ≡ t)) }
     ensures refused { table.old.refusal ≡ None → IfErr result (λ e. (e ≡ NoMemory) ⊎ IsRefusal table.old.dynamic block.now e) }

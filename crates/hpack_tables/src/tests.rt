@@ -1,5 +1,5 @@
-//! Worked examples. Where nothing else is said the bytes and the headers are those of RFC 7541, appendix C, of which the decoder
-//! of python3-hpack (version 4.0.0) gives the same.
+//! Worked examples. Unless a test says otherwise, the bytes and the headers are those of RFC 7541, appendix C, and the decoder of
+//! python3-hpack (version 4.0.0) gives the same.
 
 ghost use Rattle.std.specs.Prelude.{◌≤◌};
 ghost use Rattle.hpack_tables.specs.Block.{max_table};
@@ -16,7 +16,7 @@ use std::alloc::Global;
 use std::process::Abort;
 use std::test::*;
 
-/// A hexadecimal digit.
+/// The value of a hexadecimal digit.
 fn digit(b: u8) -> u8 {
     match b {
         b'0'..=b'9' => b - b'0',
@@ -55,7 +55,7 @@ pub(crate) fn assert_headers(
     }
 }
 
-/// Asserts that blocks on one connection, with a table of so many bytes, give these headers.
+/// Asserts that the blocks of one connection, with a table of at most `max` bytes, give these headers.
 pub(crate) fn assert_blocks(
     rt: &impl Abort,
     alloc: Global,
@@ -75,7 +75,7 @@ pub(crate) fn assert_blocks(
     Ok(())
 }
 
-/// What refuses a block on a new table.
+/// The fault with which a block is refused on a new table, if it is refused.
 pub(crate) fn fault_of(alloc: Global, block: &[u8]) -> Option<HpackFault> {
     let mut table = Table::new(alloc, 4_096);
     decode_block(alloc, &mut table, block).err()

@@ -1,4 +1,4 @@
-//! What this end writes.
+//! Blocks that are encoded.
 
 use crate::tests::bytes_of;
 use crate::*;
@@ -18,8 +18,8 @@ fn headers_of(alloc: Global, pairs: &[(&str, &str)]) -> Result<Headers, OutOfMem
     Ok(headers)
 }
 
-/// Headers, whether the block is to shrink the table, and the block, by sections 6.1, 6.2.2 and 6.3; the path is that of
-/// section C.2.2.
+/// Headers, whether their block shrinks the table, and the block, by sections 6.1, 6.2.2 and 6.3. The path is that of section
+/// C.2.2.
 const ENCODED: [(&[(&str, &str)], bool, &str); 8] = [
     (&[], false, ""),
     (&[], true, "20"),

@@ -1,5 +1,5 @@
-//! Blocks that are refused, and where. By RFC 7541, sections 4.2 to 4.4, 5.1, 5.2 and 6; the decoder of python3-hpack
-//! refuses each too, but tells no place, and has no bound of integers: 2^32 - 1 and five further bytes are the limits of this
+//! Blocks that are refused, and where, by RFC 7541, sections 4.2 to 4.4, 5.1, 5.2 and 6. The decoder of python3-hpack refuses
+//! each too, but tells no place and has no limit of integers: 2^32 - 1, and five bytes after the prefix, are the limits of this
 //! crate.
 
 use crate::tests::{assert_headers, bytes_of, fault_of};
@@ -8,73 +8,98 @@ use std::alloc::Global;
 use std::process::Abort;
 use std::test::*;
 
-/// An index that has no entry.
-const INDEXES: [(&str, HpackFault); 9] = [
-    ("80", HpackFault::BadIndex { at: 0 }),
-    ("be", HpackFault::BadIndex { at: 0 }),
-    // past the one entry
-    ("4001610162bf", HpackFault::BadIndex { at: 5 }),
-    // of an entry that was evicted
-    (
-        "3f06400162004001610462626262bf",
-        HpackFault::BadIndex { at: 14 },
-    ),
-    // of a name: of a literal that is added, and of one that isn't
-    ("827e00", HpackFault::BadIndex { at: 1 }),
-    ("820f2f00", HpackFault::BadIndex { at: 1 }),
-    // behind a literal that isn't added, and behind one that never is
-    ("0001610162be", HpackFault::BadIndex { at: 5 }),
-    ("1001610162be", HpackFault::BadIndex { at: 5 }),
-    // an entry of 65 bytes in a table of 64
-    (
-        "3f21400a637573746f6d2d6b65790d637573746f6d2d686561646572400161206262626262626262626262626262626262626262626262626262626262626262be",
-        HpackFault::BadIndex { at: 64 },
-    ),
+/// Blocks with an index that has no entry, and the place of its representation.
+const INDEXES: [(&str, usize); 10] = [
+    // index 0, the first after the static table, and the largest integer
+    ("80", 0),
+    ("be", 0),
+    ("ff80ffffff0f", 0),
+    // past the only entry of the dynamic table
+    ("4001610162bf", 5),
+    // that of an entry that was evicted
+    ("3f06400162004001610462626262bf", 14),
+    // that of a name, in a literal that is added and in one that is not
+    ("827e00", 1),
+    ("820f2f00", 1),
+    // after a literal that is not added, and after one that never is
+    ("0001610162be", 5),
+    ("1001610162be", 5),
+    // after an entry of 65 bytes in a table of 64
+    (LARGE_ENTRY, 64),
 ];
 
-/// A size update to 4,097 bytes, and one behind a header.
-const UPDATES: [(&str, HpackFault); 3] = [
-    ("3fe21f", HpackFault::BadUpdate { at: 0 }),
-    ("8220", HpackFault::BadUpdate { at: 1 }),
-    ("208220", HpackFault::BadUpdate { at: 2 }),
-];
+/// A maximum of 64 bytes, an entry of 55, one of 65, and the first index of the dynamic table.
+const LARGE_ENTRY: &str =
+    "3f21400a637573746f6d2d6b65790d637573746f6d2d686561646572400161206262626262626262626262626262626262626262626262626262626262626262be";
 
-/// Integers of 2^32 and of 2^32 - 1, and one of six further bytes.
-const INTEGERS: [(&str, HpackFault); 8] = [
+/// Blocks with a size update to 4,097 bytes or after a header, and its place.
+const UPDATES: [(&str, usize); 3] = [("3fe21f", 0), ("8220", 1), ("208220", 2)];
+
+/// Blocks with an integer of 2^32 or more, or of six bytes after the prefix, and the place of its representation.
+const INTEGERS: [(&str, usize); 5] = [
     // an index
-    ("ff81ffffff0f", HpackFault::BadInt { at: 0 }),
-    ("ff80ffffff0f", HpackFault::BadIndex { at: 0 }),
-    ("ff8080808010", HpackFault::BadInt { at: 0 }),
-    ("ff808080808000", HpackFault::BadInt { at: 0 }),
-    ("ff8080808080", HpackFault::Truncated { at: 0 }),
+    ("ff81ffffff0f", 0),
+    ("ff8080808010", 0),
+    ("ff808080808000", 0),
     // a maximum
-    ("3fe1ffffff0f", HpackFault::BadInt { at: 0 }),
+    ("3fe1ffffff0f", 0),
     // a length
-    ("82407f81ffffff0f", HpackFault::BadInt { at: 1 }),
-    ("82407f80ffffff0f", HpackFault::Truncated { at: 1 }),
+    ("82407f81ffffff0f", 1),
 ];
 
-/// Asserts that each block is refused so on a new table.
-fn assert_faults(rt: &impl Abort, alloc: Global, rows: &[(&str, HpackFault)]) -> Result<(), Fail> {
-    for (hex, fault) in rows {
-        let block = bytes_of(alloc, hex)?;
-        let refused = fault_of(alloc, block.as_slice());
-        assert_eq!(rt; refused, Some(*fault), "{hex}");
+/// Blocks that end in an integer of five bytes that goes on, and in a string of 2^32 - 1 bytes; and the place of the
+/// representation.
+const CUT: [(&str, usize); 2] = [("ff8080808080", 0), ("82407f80ffffff0f", 1)];
+
+/// Asserts that a block is refused so on a new table.
+fn assert_refused(
+    rt: &impl Abort,
+    alloc: Global,
+    hex: &str,
+    fault: HpackFault,
+) -> Result<(), Fail> {
+    let block = bytes_of(alloc, hex)?;
+    assert_eq!(rt; fault_of(alloc, block.as_slice()), Some(fault), "{hex}");
+    Ok(())
+}
+
+#[test]
+fn an_index_without_an_entry_is_refused(rt: HostRuntime) -> Result<(), Fail> {
+    for (hex, at) in INDEXES {
+        assert_refused(&rt, rt.alloc(), hex, HpackFault::BadIndex { at })?;
     }
     Ok(())
 }
 
 #[test]
-fn a_fault_has_the_place_of_its_representation(rt: HostRuntime) -> Result<(), Fail> {
-    assert_faults(&rt, rt.alloc(), &INDEXES)?;
-    assert_faults(&rt, rt.alloc(), &UPDATES)?;
-    assert_faults(&rt, rt.alloc(), &INTEGERS)?;
-    // the five bits of "0", and then zeros for a padding
-    assert_faults(
-        &rt,
-        rt.alloc(),
-        &[("8200810000", HpackFault::BadHuffman { at: 1 })],
-    )
+fn a_large_or_late_size_update_is_refused(rt: HostRuntime) -> Result<(), Fail> {
+    for (hex, at) in UPDATES {
+        assert_refused(&rt, rt.alloc(), hex, HpackFault::BadUpdate { at })?;
+    }
+    Ok(())
+}
+
+#[test]
+fn an_integer_above_the_limits_is_refused(rt: HostRuntime) -> Result<(), Fail> {
+    for (hex, at) in INTEGERS {
+        assert_refused(&rt, rt.alloc(), hex, HpackFault::BadInt { at })?;
+    }
+    Ok(())
+}
+
+#[test]
+fn a_block_that_ends_too_early_is_refused(rt: HostRuntime) -> Result<(), Fail> {
+    for (hex, at) in CUT {
+        assert_refused(&rt, rt.alloc(), hex, HpackFault::Truncated { at })?;
+    }
+    Ok(())
+}
+
+#[test]
+fn a_malformed_coded_string_is_refused(rt: HostRuntime) -> Result<(), Fail> {
+    // the five bits of "0", and zeros where the padding would be
+    let fault = HpackFault::BadHuffman { at: 1 };
+    assert_refused(&rt, rt.alloc(), "8200810000", fault)
 }
 
 #[test]

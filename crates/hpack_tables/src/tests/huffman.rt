@@ -1,9 +1,9 @@
-//! Worked examples of the code of strings.
+//! Worked examples of the Huffman code of strings.
 
 use crate::*;
 use std::test::*;
 
-/// All bytes in order, coded by another program (hpack of Python).
+/// All bytes in order, coded by python3-hpack.
 const ALL: &[u8] = b"\
     \xff\xc7\xff\xfd\x8f\xff\xff\xe2\xff\xff\xfe\x3f\xff\xff\xe4\xff\xff\xfe\x5f\xff\xff\xe6\xff\
     \xff\xfe\x7f\xff\xff\xe8\xff\xff\xea\xff\xff\xff\xf3\xff\xff\xfa\x7f\xff\xff\xab\xff\xff\xff\
@@ -32,7 +32,7 @@ const ALL: &[u8] = b"\
     \xff\xff\xfa\xbf\xff\xff\x5f\xff\xff\xff\x7f\xff\xfe\xcf\xff\xff\xdb\xff\xff\xfb\xbf\xff\xff\
     \x7f\xff\xff\xf0\xff\xff\xfb\xbf";
 
-/// Texts and their codes, from RFC 7541, appendix C, and from hpack of Python.
+/// Texts and their coded strings, from RFC 7541, appendix C, and from python3-hpack.
 const CASES: [(&[u8], &[u8]); 15] = [
     (b"", b""),
     (b"a", b"\x1f"),
@@ -98,7 +98,7 @@ fn all_bytes_are_coded_and_read(rt: HostRuntime) -> Result<(), Fail> {
     Ok(())
 }
 
-/// Strings that are malformed.
+/// Coded strings that are malformed, and what they are.
 const OTHERS: [(&[u8], &str); 9] = [
     (b"\x1f\xff", "a code, eight ones and three more"),
     (b"\xf8\xff", "a code and eight ones"),

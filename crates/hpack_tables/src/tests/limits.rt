@@ -9,11 +9,11 @@ use std::test::*;
 /// Blocks with the headers that they give on a new table.
 const TAKEN: [(&str, &[(&str, &str)]); 8] = [
     ("", &[]),
-    // a maximum of 4,096 bytes; spelled longer than it has to be; and a second one behind one of 0
+    // a maximum of 4,096 bytes, the same in a longer spelling, and the same after a maximum of 0
     ("3fe11f", &[]),
     ("3fe19f0082", &[(":method", "GET")]),
     ("203fe11f82", &[(":method", "GET")]),
-    // the last entry of the static table, and the first of the dynamic one, which a literal adds
+    // the last entry of the static table, and the first of the dynamic table, which a literal adds
     ("bd", &[("www-authenticate", "")]),
     ("4001610162be", &[("a", "b"), ("a", "b")]),
     // an entry that is as large as the table evicts the one before
@@ -39,7 +39,7 @@ fn a_block_is_taken_at_the_limits(rt: HostRuntime) -> Result<(), Fail> {
     Ok(())
 }
 
-/// The bytes of some hex, and then so many times these.
+/// The bytes of some hex, and then these bytes `count` times.
 fn followed_by(alloc: Global, hex: &str, bytes: &[u8], count: usize) -> Result<Bytes, OutOfMemory> {
     let mut block = bytes_of(alloc, hex)?;
     for _ in 0..count {
@@ -50,8 +50,8 @@ fn followed_by(alloc: Global, hex: &str, bytes: &[u8], count: usize) -> Result<B
 
 #[test]
 fn a_list_of_16384_bytes_is_the_largest(rt: HostRuntime) -> Result<(), Fail> {
-    // by section 4.1 a header has 32 more than its name and its value: ":method: GET" has 42, and "a" with a value of 16,309
-    // the rest; the lengths are spelled by section 5.1
+    // By section 4.1 a header has 32 bytes besides its name and its value: ":method: GET" has 42, and "a" with a value of 16,309
+    // bytes has the rest. The lengths are spelled by section 5.1.
     let cases = [
         ("1001617fe07e", 16_351, None),
         (
@@ -75,7 +75,7 @@ fn a_list_of_16384_bytes_is_the_largest(rt: HostRuntime) -> Result<(), Fail> {
 
 #[test]
 fn the_last_entry_of_a_full_table_has_an_index(rt: HostRuntime) -> Result<(), Fail> {
-    // an entry of 64 bytes and 126 of 32 fill the table; the first stands at 61 + 127, and goes for one more
+    // An entry of 64 bytes and 126 of 32 fill the table. The first has the index 61 + 127, and is evicted by one more.
     let first = "4001611f62626262626262626262626262626262626262626262626262626262626262";
     let mut block = followed_by(rt.alloc(), first, b"\x40\x00\x00", 126)?;
     block.push_slice(b"\xff\x3d")?;
@@ -93,7 +93,7 @@ fn the_last_entry_of_a_full_table_has_an_index(rt: HostRuntime) -> Result<(), Fa
 
 #[test]
 fn a_coded_string_of_8001_bytes_is_read(rt: HostRuntime) -> Result<(), Fail> {
-    // "0" has the five bits 00000, so that 12,801 of them and three ones are 8,001 bytes
+    // The code of "0" is 00000, so 12,801 of them and three ones fill 8,001 bytes.
     let mut block = followed_by(rt.alloc(), "100161ffc23d", b"\x00", 8_000)?;
     block.push_slice(b"\x07")?;
     let mut table = Table::new(rt.alloc(), 4_096);

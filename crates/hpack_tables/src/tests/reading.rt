@@ -6,7 +6,7 @@ use std::test::*;
 
 #[test]
 fn the_four_literals_of_the_standard_are_read(rt: HostRuntime) -> Result<(), Fail> {
-    // section C.2: one that is added, one that isn't, one that never is, and an indexed header
+    // section C.2: a literal that is added, one that is not, one that never is, and an indexed header
     let cases = [
         (
             "400a637573746f6d2d6b65790d637573746f6d2d686561646572",
@@ -71,7 +71,7 @@ fn requests_are_read(rt: HostRuntime) -> Result<(), Fail> {
     Ok(())
 }
 
-/// The responses of sections C.5 and C.6, and then what the table has, whose oldest entries were evicted.
+/// The responses of sections C.5 and C.6, and then the entries that the table has after its oldest were evicted.
 const RESPONSES: [&[(&str, &str)]; 4] = [
     &[
         (":status", "302"),
