@@ -12,11 +12,11 @@ use Rattle.store_core.proofs.Elements.{every_map, filter_of_map, every_weaker}
 use Rattle.store_core.proofs.Passes.{not_among}
 use Rattle.store_core.proofs.Same.{equal_from_same, same_itself}
 use Rattle.store_core.proofs.Guarding.{same_swap}
-use Rattle.lease_table.specs.declared.hold.Hold.{Hold}
+use Rattle.lease_table.specs.declared.table_lease.TableLease.{TableLease}
 use Rattle.lease_table.specs.Table as table
 use Rattle.lease_table.specs.Table.{Table, Distinct, DistinctDigests, guarded, is_blob, other_digests, roots, unguarded}
 use Rattle.lease_table.proofs.OrderLaws.{distinct_kept, all_others}
-use Rattle.indexed_core.specs.Joined.{Flag, IsJoined, row_in, rows_in}
+use Rattle.indexed_core.specs.Joined.{Soundness, IsJoined, row_in, rows_in}
 use Rattle.indexed_core.specs.Parts.{held_bytes}
 use Rattle.indexed_core.proofs.ReachedRows.{first_in_order, rows_held}
 
@@ -108,12 +108,12 @@ names_total [] = refl
 names_total (blob ∷ there) = omega (arith, sum_by-cons (λ (x : Linked). x.digest.size) blob there, total_first blob.digest (names there), names_total there)
 
 -- the sum over rows is that of their digests
-pub rows_total : (ds : List HashAndSize) (there : List Linked) (flags : List Flag) → sizes (rows_in ds there flags) ≡ total ds
+pub rows_total : (ds : List HashAndSize) (there : List Linked) (flags : Soundness) → sizes (rows_in ds there flags) ≡ total ds
 rows_total [] there flags = refl
 rows_total (d ∷ ds) there flags =
     omega (arith, sum_by-cons (λ (x : Row). x.digest.size) (row_in there flags d) (rows_in ds there flags), total_first d ds, rows_total ds there flags)
 
-module _ (order : List HashAndSize) (there : List Linked) (flags : List Flag) (used : ℕ) (joined : IsJoined order there flags used) where
+module _ (order : List HashAndSize) (there : List Linked) (flags : Soundness) (used : ℕ) (joined : IsJoined order there flags used) where
   names_order : (d : HashAndSize) → is_among order d ≡ is_among (names there) d
   names_order d = sym (names_among there d ∙ joined.has_blobs d)
 
@@ -132,7 +132,7 @@ module _ (order : List HashAndSize) (there : List Linked) (flags : List Flag) (u
       ∙ ap sizes (sym (filter_of_map (row_in there flags) (λ (row : Row). keep row.digest) order))
 
   -- the guarded bytes are those of the rows that are held
-  pub rows_guarded : (holds : List Hold) → guarded (record { blobs = there; leases = holds }) ≡ held_bytes (record { rows = rows_in order there flags; holds = holds })
+  pub rows_guarded : (holds : List TableLease) → guarded (record { blobs = there; leases = holds }) ≡ held_bytes (record { rows = rows_in order there flags; holds = holds })
   rows_guarded holds =
       kept_total (λ d. is_reached there (roots holds) d)
       ∙ ap (λ (test : HashAndSize → Bool). sizes (filter (λ row. test row.digest) (rows_in order there flags))) (λ i d. sym (rows_held order there flags used joined holds d) i)

@@ -1,5 +1,5 @@
 -- Digests that are taken out one after the other, and the sum of those that are left.
-use Rattle.std.proofs.Common.{◌≡◌, ℕ, suc, ◌+◌, ◌<◌, ◌≤◌, Bool, true, false, cond, not, ◌&&◌, ◌||◌, List, [], ◌∷◌, ◌++◌, length, get_or, take, refl, sym, ap, ◌∙◌, arith}
+use Rattle.std.proofs.Common.{◌≡◌, ℕ, suc, ◌+◌, ◌<◌, ◌≤◌, Bool, true, false, cond, not, ◌&&◌, ◌||◌, List, [], ◌∷◌, ◌++◌, length, get_or, take, Option, None, refl, sym, ap, ◌∙◌, arith}
 use Rattle.std.specs.Prelude.{filter}
 use Rattle.std.proofs.lemmas.List.{take_more}
 use Rattle.std.proofs.lemmas.List.Folds.{list_any-append}
@@ -10,6 +10,7 @@ use Rattle.store_core.proofs.ReachLaws.{every}
 use Rattle.store_core.proofs.FirstMentions.{neither}
 use Rattle.store_core.proofs.Guarding.{same_swap}
 use Rattle.lease_table.specs.Table.{DistinctDigests, other_digests}
+use Rattle.indexed_core.specs.Joined.{Soundness, kept_flags}
 use Rattle.lease_table.proofs.OrderLaws.{apart, all_others}
 use Rattle.indexed_core.proofs.HeldLaws.{total_others}
 
@@ -82,3 +83,14 @@ pub left_more : {X : Type 0} (key : X → HashAndSize) (gone : List HashAndSize)
 left_more key gone i d xs lt here =
     filter_both (λ x. not (same (key x) d)) (λ x. not (is_among (take i gone) (key x))) xs
     ∙ ap (λ (test : _ → Bool). filter test xs) (λ j x. (neither (is_among (take i gone) (key x)) (same (key x) d) ∙ ap not (sym (among_more gone i d (key x) lt here))) j)
+
+-- one more goes from the flags
+pub flags_more : (gone : List HashAndSize) (i : ℕ) (d : HashAndSize) (flags : Soundness) → i < length gone → d ≡ get_or gone i d
+    → kept_flags (λ q. not (same q d)) (kept_flags (λ q. not (is_among (take i gone) q)) flags) ≡ kept_flags (λ q. not (is_among (take (i + 1) gone) q)) flags
+flags_more gone i d flags lt here = (λ j q. (by (same q d) (is_among (take i gone) q) (flags q) ∙ ap (λ (b : Bool). cond (not b) (flags q) None) (sym (among_more gone i d q lt here))) j)
+  where
+    by : (a b : Bool) (o : Option Bool) → cond (not a) (cond (not b) o None) None ≡ cond (not (b || (a || false))) o None
+    by true true o = refl
+    by true false o = refl
+    by false true o = refl
+    by false false o = refl

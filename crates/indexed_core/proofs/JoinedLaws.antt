@@ -19,11 +19,15 @@ use Rattle.store_core.proofs.Elements.{filter_of_map, every_weaker}
 use Rattle.store_core.proofs.Same.{equal_from_same, not_same_from_other}
 use Rattle.store_core.proofs.Guarding.{same_swap}
 use Rattle.lease_table.specs.Table.{is_blob, Distinct, other_digests, DistinctDigests}
-use Rattle.lease_table.proofs.MarkLaws.{others_fail, or_false}
+use Rattle.lease_table.proofs.RowLaws.{others_fail}
 use Rattle.lease_table.proofs.OrderLaws.{distinct_kept, distinct_more, others_differ}
-use Rattle.indexed_core.specs.Joined.{Flag, is_flag, sound_in, edges_if, edges_in, row_in, rows_in, IsJoined}
+use Rattle.indexed_core.specs.Joined.{Soundness, sound_in, set_flag, edges_if, edges_in, row_in, rows_in, IsJoined}
 use Rattle.indexed_core.specs.Parts.{has_row}
-use Rattle.indexed_core.proofs.FlagLaws.{set_flags, set_has, set_same, set_other, sound_has}
+use Rattle.indexed_core.proofs.FlagLaws.{set_has, set_same, set_other, sound_has}
+
+or_false : (b : Bool) → (b || false) ≡ b
+or_false true = refl
+or_false false = refl
 
 and_false : (b : Bool) → (b && false) ≡ false
 and_false true = refl
@@ -32,7 +36,7 @@ and_false false = refl
 -- ---- the row of a digest
 
 -- the digests of the order have the rows
-pub row_among : (order : List HashAndSize) (there : List Linked) (flags : List Flag) (d : HashAndSize) → has_row (rows_in order there flags) d ≡ is_among order d
+pub row_among : (order : List HashAndSize) (there : List Linked) (flags : Soundness) (d : HashAndSize) → has_row (rows_in order there flags) d ≡ is_among order d
 row_among [] there flags d = refl
 row_among (x ∷ order) there flags d = (λ i. same_swap x d i || row_among order there flags d i)
 
@@ -48,7 +52,7 @@ pick_by true false p r rest m e h k = absurd cc
 pick_by false true p r rest m e h k = absurd cc
 
 -- a test of the rows of a digest is one of its row
-pub row_passes : (q : Row → Bool) (order : List HashAndSize) (there : List Linked) (flags : List Flag) (d : HashAndSize)
+pub row_passes : (q : Row → Bool) (order : List HashAndSize) (there : List Linked) (flags : Soundness) (d : HashAndSize)
     → list_any (λ row. is_of d row && q row) (rows_in order there flags) ≡ (is_among order d && q (row_in there flags d))
 row_passes q [] there flags d = refl
 row_passes q (x ∷ order) there flags d =
@@ -56,7 +60,7 @@ row_passes q (x ∷ order) there flags d =
     (λ t. ap (λ (y : HashAndSize). q (row_in there flags y)) (equal_from_same x d t))
     (row_passes q order there flags d)
 
-found_by : (there : List Linked) (flags : List Flag) (d x : HashAndSize) (b c m : Bool) (o : Option Row) → b ≡ c → (b ≡ true → x ≡ d) → (m ≡ true → o ≡ Some (row_in there flags d)) → (c || m) ≡ true
+found_by : (there : List Linked) (flags : Soundness) (d x : HashAndSize) (b c m : Bool) (o : Option Row) → b ≡ c → (b ≡ true → x ≡ d) → (m ≡ true → o ≡ Some (row_in there flags d)) → (c || m) ≡ true
     → cond b (Some (row_in there flags x)) o ≡ Some (row_in there flags d)
 found_by there flags d x true true m o e is h has = ap (λ (y : HashAndSize). Some (row_in there flags y)) (is refl)
 found_by there flags d x false false m o e is h has = h has
@@ -64,7 +68,7 @@ found_by there flags d x true false m o e is h has = absurd cc
 found_by there flags d x false true m o e is h has = absurd cc
 
 -- it is found
-pub row_found : (order : List HashAndSize) (there : List Linked) (flags : List Flag) (d : HashAndSize) → is_among order d ≡ true → row_of d (rows_in order there flags) ≡ Some (row_in there flags d)
+pub row_found : (order : List HashAndSize) (there : List Linked) (flags : Soundness) (d : HashAndSize) → is_among order d ≡ true → row_of d (rows_in order there flags) ≡ Some (row_in there flags d)
 row_found [] there flags d has = absurd cc
 row_found (x ∷ order) there flags d has =
     found_by there flags d x (same x d) (same d x) (is_among order d) _ (same_swap x d) (equal_from_same x d) (row_found order there flags d) has
@@ -72,14 +76,14 @@ row_found (x ∷ order) there flags d has =
 -- ---- what joined parts tell
 
 -- a digest that is sound is one of the order
-pub sound_among : (order : List HashAndSize) (there : List Linked) (flags : List Flag) (used : ℕ) (d : HashAndSize) → IsJoined order there flags used → (is_among order d && sound_in flags d) ≡ sound_in flags d
+pub sound_among : (order : List HashAndSize) (there : List Linked) (flags : Soundness) (used : ℕ) (d : HashAndSize) → IsJoined order there flags used → (is_among order d && sound_in flags d) ≡ sound_in flags d
 sound_among order there flags used d joined = ap (λ (b : Bool). b && sound_in flags d) (sym (joined.has_flags d)) ∙ sound_has d flags
 
-pub among_from_sound : (order : List HashAndSize) (there : List Linked) (flags : List Flag) (used : ℕ) (d : HashAndSize) → IsJoined order there flags used → sound_in flags d ≡ true → is_among order d ≡ true
+pub among_from_sound : (order : List HashAndSize) (there : List Linked) (flags : Soundness) (used : ℕ) (d : HashAndSize) → IsJoined order there flags used → sound_in flags d ≡ true → is_among order d ≡ true
 among_from_sound order there flags used d joined e = (and_parts (is_among order d) (sound_in flags d) (sound_among order there flags used d joined ∙ e)).0
 
 -- the flags tell which rows are sound
-pub sound_told : (order : List HashAndSize) (there : List Linked) (flags : List Flag) (used : ℕ) (d : HashAndSize) → IsJoined order there flags used → sound_in flags d ≡ is_sound (rows_in order there flags) d
+pub sound_told : (order : List HashAndSize) (there : List Linked) (flags : Soundness) (used : ℕ) (d : HashAndSize) → IsJoined order there flags used → sound_in flags d ≡ is_sound (rows_in order there flags) d
 sound_told order there flags used d joined = sym (sound_among order there flags used d joined) ∙ sym (row_passes (λ row. row.sound) order there flags d)
 
 none_fails : (test other : Linked → Bool) (there : List Linked) → AllByRecursion (λ blob. test blob ≡ false) there → list_any (λ blob. test blob && other blob) there ≡ false
@@ -108,7 +112,7 @@ regroup false true n h = absurd cc
 regroup false false n h = refl
 
 -- and together which digests are those of sound rows without edges
-pub plain_told : (order : List HashAndSize) (there : List Linked) (flags : List Flag) (used : ℕ) (d : HashAndSize) → IsJoined order there flags used
+pub plain_told : (order : List HashAndSize) (there : List Linked) (flags : Soundness) (used : ℕ) (d : HashAndSize) → IsJoined order there flags used
     → (sound_in flags d && not (list_any (λ blob. is_blob d blob && is_some blob.edges) there)) ≡ is_plain (rows_in order there flags) d
 plain_told order there flags used d joined =
     ap (λ (b : Bool). sound_in flags d && b) (ap not (dir_told there d joined.distinct_blobs) ∙ not_some (edges_in there d))
@@ -173,7 +177,7 @@ moved_total d order distinct has =
     let one : total (filter (λ other. same other d) order) ≡ total (d ∷ []) = ap total (one_same d order distinct has) in
     omega (arith, all, parts, one)
 
-pub moved_joined : (order : List HashAndSize) (there : List Linked) (flags : List Flag) (used : ℕ) (d : HashAndSize) → IsJoined order there flags used → is_among order d ≡ true
+pub moved_joined : (order : List HashAndSize) (there : List Linked) (flags : Soundness) (used : ℕ) (d : HashAndSize) → IsJoined order there flags used → is_among order d ≡ true
     → IsJoined (moved d order) there flags used
 moved_joined order there flags used d joined has = record {
   distinct = distinct_more (other_digests d order) d (distinct_kept (λ other. not (same other d)) order joined.distinct) (others_differ d order);
@@ -185,11 +189,11 @@ moved_joined order there flags used d joined has = record {
 }
 
 -- the rows of other digests
-pub others_joined : (order : List HashAndSize) (there : List Linked) (flags : List Flag) (d : HashAndSize) → rows_in (other_digests d order) there flags ≡ others d (rows_in order there flags)
+pub others_joined : (order : List HashAndSize) (there : List Linked) (flags : Soundness) (d : HashAndSize) → rows_in (other_digests d order) there flags ≡ others d (rows_in order there flags)
 others_joined order there flags d = sym (filter_of_map (row_in there flags) (λ row. not (is_of d row)) order)
 
 -- a sound row is touched
-pub touched_joined : (order : List HashAndSize) (there : List Linked) (flags : List Flag) (used : ℕ) (d : HashAndSize) → IsJoined order there flags used → sound_in flags d ≡ true
+pub touched_joined : (order : List HashAndSize) (there : List Linked) (flags : Soundness) (used : ℕ) (d : HashAndSize) → IsJoined order there flags used → sound_in flags d ≡ true
     → rows_in (moved d order) there flags ≡ touched d (rows_in order there flags)
 touched_joined order there flags used d joined e =
     let rows = rows_in order there flags in
@@ -201,7 +205,7 @@ touched_joined order there flags used d joined e =
     ∙ sym (cond-true (is_sound rows d) (others d rows ++ filter (is_of d) rows) rows (sym (sound_told order there flags used d joined) ∙ e))
 
 -- and one that isn't stays
-pub untouched_joined : (order : List HashAndSize) (there : List Linked) (flags : List Flag) (used : ℕ) (d : HashAndSize) → IsJoined order there flags used → sound_in flags d ≡ false
+pub untouched_joined : (order : List HashAndSize) (there : List Linked) (flags : Soundness) (used : ℕ) (d : HashAndSize) → IsJoined order there flags used → sound_in flags d ≡ false
     → rows_in order there flags ≡ touched d (rows_in order there flags)
 untouched_joined order there flags used d joined e =
     let rows = rows_in order there flags in
@@ -209,8 +213,8 @@ untouched_joined order there flags used d joined e =
 
 -- ---- a flag that is set
 
-pub set_joined : (order : List HashAndSize) (there : List Linked) (flags : List Flag) (used : ℕ) (d : HashAndSize) (sound : Bool) → IsJoined order there flags used
-    → IsJoined order there (set_flags d sound flags) used
+pub set_joined : (order : List HashAndSize) (there : List Linked) (flags : Soundness) (used : ℕ) (d : HashAndSize) (sound : Bool) → IsJoined order there flags used
+    → IsJoined order there (set_flag d sound flags) used
 set_joined order there flags used d sound joined = record {
   distinct = joined.distinct;
   distinct_blobs = joined.distinct_blobs;
@@ -229,31 +233,31 @@ map_same f g [] h = refl
 map_same f g (d ∷ ds) h = (λ i. h.0 i ∷ map_same f g ds h.1 i)
 
 -- the rows of other digests stay
-set_others : (ds : List HashAndSize) (there : List Linked) (flags : List Flag) (d : HashAndSize) (sound : Bool) → AllByRecursion (λ other. other ≢ d) ds
-    → rows_in ds there (set_flags d sound flags) ≡ rows_in ds there flags
+set_others : (ds : List HashAndSize) (there : List Linked) (flags : Soundness) (d : HashAndSize) (sound : Bool) → AllByRecursion (λ other. other ≢ d) ds
+    → rows_in ds there (set_flag d sound flags) ≡ rows_in ds there flags
 set_others ds there flags d sound differ =
-    map_same (row_in there (set_flags d sound flags)) (row_in there flags) ds
-    (every_weaker (λ other. other ≢ d) (λ other. row_in there (set_flags d sound flags) other ≡ row_in there flags other)
+    map_same (row_in there (set_flag d sound flags)) (row_in there flags) ds
+    (every_weaker (λ other. other ≢ d) (λ other. row_in there (set_flag d sound flags) other ≡ row_in there flags other)
     (λ other n. ap (with_sound there other) (set_other d other sound flags (not_same_from_other other d n))) ds differ)
 
 -- a row that becomes sound and the most recent one
-pub renewed_joined : (order : List HashAndSize) (there : List Linked) (flags : List Flag) (used : ℕ) (d : HashAndSize) → IsJoined order there flags used → is_among order d ≡ true
-    → rows_in (moved d order) there (set_flags d true flags) ≡ others d (rows_in order there flags) ++ record (row_in there flags d) { sound = true } ∷ []
+pub renewed_joined : (order : List HashAndSize) (there : List Linked) (flags : Soundness) (used : ℕ) (d : HashAndSize) → IsJoined order there flags used → is_among order d ≡ true
+    → rows_in (moved d order) there (set_flag d true flags) ≡ others d (rows_in order there flags) ++ record (row_in there flags d) { sound = true } ∷ []
 renewed_joined order there flags used d joined has =
-    let rest : rows_in (other_digests d order) there (set_flags d true flags) ≡ others d (rows_in order there flags) =
+    let rest : rows_in (other_digests d order) there (set_flag d true flags) ≡ others d (rows_in order there flags) =
     set_others (other_digests d order) there flags d true (others_differ d order) ∙ others_joined order there flags d in
-    let own : sound_in (set_flags d true flags) d ≡ true = set_same d true flags ∙ and-true (list_any (is_flag d) flags) ∙ joined.has_flags d ∙ has in
-    map-append (row_in there (set_flags d true flags)) (other_digests d order) (d ∷ [])
+    let own : sound_in (set_flag d true flags) d ≡ true = set_same d true flags ∙ and-true (is_some (flags d)) ∙ joined.has_flags d ∙ has in
+    map-append (row_in there (set_flag d true flags)) (other_digests d order) (d ∷ [])
     ∙ (λ i. rest i ++ with_sound there d (own i) ∷ [])
 
-unsound_by : (there : List Linked) (flags : List Flag) (d x : HashAndSize) (b : Bool) → same x d ≡ b
-    → row_in there (set_flags d false flags) x ≡ cond b (record (row_in there flags x) { sound = false }) (row_in there flags x)
+unsound_by : (there : List Linked) (flags : Soundness) (d x : HashAndSize) (b : Bool) → same x d ≡ b
+    → row_in there (set_flag d false flags) x ≡ cond b (record (row_in there flags x) { sound = false }) (row_in there flags x)
 unsound_by there flags d x true e =
-    let own : sound_in (set_flags d false flags) d ≡ false = set_same d false flags ∙ and_false (list_any (is_flag d) flags) in
-    ap (with_sound there x) (ap (sound_in (set_flags d false flags)) (equal_from_same x d e) ∙ own)
+    let own : sound_in (set_flag d false flags) d ≡ false = set_same d false flags ∙ and_false (is_some (flags d)) in
+    ap (with_sound there x) (ap (sound_in (set_flag d false flags)) (equal_from_same x d e) ∙ own)
 unsound_by there flags d x false e = ap (with_sound there x) (set_other d x false flags e)
 
 -- a row that becomes unsound
-pub damaged_joined : (order : List HashAndSize) (there : List Linked) (flags : List Flag) (d : HashAndSize) → rows_in order there (set_flags d false flags) ≡ damaged d (rows_in order there flags)
+pub damaged_joined : (order : List HashAndSize) (there : List Linked) (flags : Soundness) (d : HashAndSize) → rows_in order there (set_flag d false flags) ≡ damaged d (rows_in order there flags)
 damaged_joined [] there flags d = refl
 damaged_joined (x ∷ order) there flags d = (λ i. unsound_by there flags d x (same x d) refl i ∷ damaged_joined order there flags d i)

@@ -25,7 +25,7 @@ use Rattle.store_core.proofs.ReachLaws.{removal}
 use Rattle.store_core.proofs.RowLaws.{Differs}
 use Rattle.store_core.proofs.Same.{same_from_equal}
 use Rattle.store_core.proofs.FirstMentions.{filter_both}
-use Rattle.lease_table.specs.declared.hold.Hold.{Hold}
+use Rattle.lease_table.specs.declared.table_lease.TableLease.{TableLease}
 use Rattle.lease_table.specs.Table.{has_id, roots}
 use Rattle.indexed_core.specs.Parts.{Parts, is_held, held_bytes, free, hold_of, holds_of}
 use Rattle.indexed_core.specs.Removal.{removed}
@@ -41,7 +41,7 @@ pub roots_are : (leases : List Lease) → roots (holds_of leases) ≡ lease_root
 roots_are [] = refl
 roots_are (lease ∷ leases) = ap (λ (es : List Edge). lease.root ∷ es) (roots_are leases)
 
-roots_of : (leases : List Lease) (holds : List Hold) → holds ≡ holds_of leases → roots holds ≡ lease_roots leases
+roots_of : (leases : List Lease) (holds : List TableLease) → holds ≡ holds_of leases → roots holds ≡ lease_roots leases
 roots_of leases holds e = ap roots e ∙ roots_are leases
 
 pub bytes_held : (s : State) (p : Parts) → p.rows ≡ s.rows → p.holds ≡ holds_of s.leases → held_bytes p ≡ guarded s
@@ -49,15 +49,21 @@ bytes_held s p rows holds =
     ap (λ (starts : List Edge). sizes (filter (λ row. is_reached (blobs p.rows) starts row.digest) p.rows)) (roots_of s.leases p.holds holds)
     ∙ ap (λ (rs : List Row). sizes (filter (λ row. is_reached (blobs rs) (lease_roots s.leases) row.digest) rs)) rows
 
+-- a digest is held where it is guarded
+pub held_is : (s : State) (p : Parts) (d : HashAndSize) → p.rows ≡ s.rows → p.holds ≡ holds_of s.leases → is_held p d ≡ is_guarded s d
+held_is s p d rows holds =
+    ap (λ (starts : List Edge). is_reached (blobs p.rows) starts d) (roots_of s.leases p.holds holds)
+    ∙ ap (λ (rs : List Row). is_reached (blobs rs) (lease_roots s.leases) d) rows
+
 pub free_are : (s : State) (p : Parts) → p.rows ≡ s.rows → p.holds ≡ holds_of s.leases → free p ≡ unguarded s
 free_are s p rows holds =
     ap (λ (starts : List Edge). filter (λ d. not (is_reached (blobs p.rows) starts d)) (digests p.rows)) (roots_of s.leases p.holds holds)
     ∙ ap (λ (rs : List Row). filter (λ d. not (is_reached (blobs rs) (lease_roots s.leases) d)) (digests rs)) rows
 
-pub held_more : (leases : List Lease) (holds : List Hold) (lease : Lease) → holds ≡ holds_of leases → holds ++ hold_of lease ∷ [] ≡ holds_of (leases ++ lease ∷ [])
-held_more leases holds lease e = ap (λ (hs : List Hold). hs ++ hold_of lease ∷ []) e ∙ sym (map-append hold_of leases (lease ∷ []))
+pub held_more : (leases : List Lease) (holds : List TableLease) (lease : Lease) → holds ≡ holds_of leases → holds ++ hold_of lease ∷ [] ≡ holds_of (leases ++ lease ∷ [])
+held_more leases holds lease e = ap (λ (hs : List TableLease). hs ++ hold_of lease ∷ []) e ∙ sym (map-append hold_of leases (lease ∷ []))
 
-pub held_less : (id : ℕ) (leases : List Lease) (holds : List Hold) → holds ≡ holds_of leases → filter (λ hold. not (has_id id hold)) holds ≡ holds_of (filter (λ other. not (is_lease id other)) leases)
+pub held_less : (id : ℕ) (leases : List Lease) (holds : List TableLease) → holds ≡ holds_of leases → filter (λ hold. not (has_id id hold)) holds ≡ holds_of (filter (λ other. not (is_lease id other)) leases)
 held_less id leases holds e = ap (filter (λ hold. not (has_id id hold))) e ∙ filter_of_map hold_of (λ hold. not (has_id id hold)) leases
 
 -- ---- the first k of some digests
@@ -118,7 +124,7 @@ leaves p k (row ∷ rows) v = leaves_by p k row rows (p row.digest) refl v.0 (λ
 -- ---- rows that go one after the other
 
 -- what goes isn't guarded
-among_free : (s : State) (count : ℕ) (d : HashAndSize) → not (is_among (take count (unguarded s)) d) ≡ false → is_guarded s d ≡ false
+pub among_free : (s : State) (count : ℕ) (d : HashAndSize) → not (is_among (take count (unguarded s)) d) ≡ false → is_guarded s d ≡ false
 among_free s count d e =
     elim (cases_Bool (is_guarded s d)) [
       | inl is ↦

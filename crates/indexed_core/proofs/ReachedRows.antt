@@ -1,5 +1,6 @@
 -- What leases reach among the rows of an index, which is what they reach among the blobs of its table.
-use Rattle.std.proofs.Common.{◌≡◌, ℕ, zero, suc, Bool, true, not, ◌||◌, ◌&&◌, List, [], ◌∷◌, map, Some, Contains, inl, inr, refl, sym, ap, subst, ◌∙◌, arith}
+use Rattle.std.proofs.lemmas.Option.{same_Some}
+use Rattle.std.proofs.Common.{◌≡◌, ℕ, zero, suc, Bool, true, not, ◌||◌, ◌&&◌, List, [], ◌∷◌, map, Some, Contains, inl, inr, refl, sym, ap, subst, ◌∙◌, arith, cond, false}
 use Rattle.std.specs.Prelude.{filter, find, slice_get}
 use Rattle.std.specs.List.{list_any}
 use Rattle.std.proofs.lemmas.Bool.{cond-true, cond-false}
@@ -14,9 +15,9 @@ use Rattle.store_core.proofs.ReachLaws.{any_passes, order_changes_nothing, same_
 use Rattle.store_core.proofs.ReachedLaws.{reached_members, reached_sorted}
 use Rattle.store_core.proofs.Same.{equal_from_same, not_same_from_other, same_from_equal, same_itself}
 use Rattle.store_core.proofs.Passes.{among_has}
-use Rattle.lease_table.specs.declared.hold.Hold.{Hold}
+use Rattle.lease_table.specs.declared.table_lease.TableLease.{TableLease}
 use Rattle.lease_table.specs.Table.{Table, Distinct, is_blob, is_guarded, roots, unguarded}
-use Rattle.indexed_core.specs.Joined.{Flag, IsJoined, edges_if, edges_in, rows_in}
+use Rattle.indexed_core.specs.Joined.{Soundness, IsJoined, edges_if, edges_in, rows_in}
 use Rattle.indexed_core.specs.Parts.{free, is_held}
 
 -- ---- digests
@@ -53,12 +54,12 @@ blob_there : (there : List Linked) (blob : Linked) → Distinct there → Contai
 blob_there there blob distinct has = ap (λ edges. record { digest = blob.digest; edges = edges }) (edges_there there blob distinct has)
 
 -- the blobs of the rows, digest by digest
-pub blobs_are : (order : List HashAndSize) (there : List Linked) (flags : List Flag) → blobs (rows_in order there flags) ≡ map (blob_in there) order
+pub blobs_are : (order : List HashAndSize) (there : List Linked) (flags : Soundness) → blobs (rows_in order there flags) ≡ map (blob_in there) order
 blobs_are [] there flags = refl
 blobs_are (d ∷ ds) there flags = ap (λ (bs : List Linked). blob_in there d ∷ bs) (blobs_are ds there flags)
 
 -- the digests of the rows are the order
-pub digests_are : (order : List HashAndSize) (there : List Linked) (flags : List Flag) → digests (rows_in order there flags) ≡ order
+pub digests_are : (order : List HashAndSize) (there : List Linked) (flags : Soundness) → digests (rows_in order there flags) ≡ order
 digests_are [] there flags = refl
 digests_are (d ∷ ds) there flags = ap (λ (xs : List HashAndSize). d ∷ xs) (digests_are ds there flags)
 
@@ -107,7 +108,7 @@ module _ (there other : List Linked) (alike : Alike there other) (starts : List 
 
 -- ---- the rows of an index
 
-module _ (order : List HashAndSize) (there : List Linked) (flags : List Flag) (used : ℕ) (joined : IsJoined order there flags used) where
+module _ (order : List HashAndSize) (there : List Linked) (flags : Soundness) (used : ℕ) (joined : IsJoined order there flags used) where
   row_blob : (blob : Linked) → Contains there blob → Contains (map (blob_in there) order) blob
   row_blob blob has =
       let among = sym (joined.has_blobs blob.digest) ∙ any_passes (is_blob blob.digest) there blob has (same_itself blob.digest) in
@@ -139,17 +140,17 @@ module _ (order : List HashAndSize) (there : List Linked) (flags : List Flag) (u
   rows_deep starts steps = same_deep there (blobs (rows_in order there flags)) rows_alike starts steps
 
   -- a lease reaches the same among the rows and among the blobs
-  pub rows_held : (holds : List Hold) (d : HashAndSize) → is_held (record { rows = rows_in order there flags; holds = holds }) d ≡ is_reached there (roots holds) d
+  pub rows_held : (holds : List TableLease) (d : HashAndSize) → is_held (record { rows = rows_in order there flags; holds = holds }) d ≡ is_reached there (roots holds) d
   rows_held holds d = same_is_reached there (blobs (rows_in order there flags)) rows_alike (roots holds) d
 
-  unguarded_in : (holds : List Hold) (d : HashAndSize) → Contains order d
+  unguarded_in : (holds : List TableLease) (d : HashAndSize) → Contains order d
       → not (is_guarded (record { blobs = there; leases = holds }) d) ≡ not (is_held (record { rows = rows_in order there flags; holds = holds }) d)
   unguarded_in holds d has =
       ap (λ (b : Bool). not (b && is_reached there (roots holds) d)) (joined.has_blobs d ∙ among_has order d has)
       ∙ ap not (sym (rows_held holds d))
 
   -- the digests of rows that aren't guarded are the free ones
-  pub rows_free : (holds : List Hold) → unguarded (record { blobs = there; leases = holds }) order ≡ free (record { rows = rows_in order there flags; holds = holds })
+  pub rows_free : (holds : List TableLease) → unguarded (record { blobs = there; leases = holds }) order ≡ free (record { rows = rows_in order there flags; holds = holds })
   rows_free holds =
       let held = λ (d : HashAndSize). not (is_held (record { rows = rows_in order there flags; holds = holds }) d) in
       filter_same_on (λ d. not (is_guarded (record { blobs = there; leases = holds }) d)) held order (every_has _ order (unguarded_in holds))
@@ -164,3 +165,16 @@ first_has (first ∷ ds) d e = subst (λ (x : HashAndSize). Contains (first ∷ 
 -- it is in the order
 pub first_in_order : (t : Table) (order : List HashAndSize) (d : HashAndSize) → slice_get (unguarded t order) 0 ≡ Some d → is_among order d ≡ true
 first_in_order t order d e = among_has order d (has_from_filter (λ x. not (is_guarded t x)) order d (first_has (unguarded t order) d e)).0
+
+pub not_both : (b c : Bool) → c ≡ false → (b && c) ≡ false
+not_both true c e = e
+not_both false c e = refl
+
+loose_by : (t : Table) (first d : HashAndSize) (rest : List HashAndSize) (b : Bool) → is_guarded t first ≡ b → slice_get (cond (not b) (first ∷ rest) rest) 0 ≡ Some d → (slice_get rest 0 ≡ Some d → is_guarded t d ≡ false) → is_guarded t d ≡ false
+loose_by t first d rest true e is h = h is
+loose_by t first d rest false e is h = ap (is_guarded t) (sym (same_Some first d is)) ∙ e
+
+-- the first digest that isn't guarded isn't
+pub first_loose : (t : Table) (order : List HashAndSize) (d : HashAndSize) → slice_get (unguarded t order) 0 ≡ Some d → is_guarded t d ≡ false
+first_loose t [] d e = absurd cc
+first_loose t (first ∷ order) d e = loose_by t first d (unguarded t order) (is_guarded t first) refl e (first_loose t order d)

@@ -6,7 +6,7 @@ use Rattle.std.proofs.lemmas.Bool.{cond-true, cond-false, and_parts, eqb-true, e
 use Rattle.store_core.specs.declared.state.Lease.{Lease}
 use Rattle.store_core.specs.State.{DistinctIds, is_of_owner, has_id as is_lease}
 use Rattle.store_core.proofs.Elements.{every_contains, every_weaker, has_cases, filter_of_map, find_has}
-use Rattle.lease_table.specs.declared.hold.Hold.{Hold}
+use Rattle.lease_table.specs.declared.table_lease.TableLease.{TableLease}
 use Rattle.lease_table.specs.Table.{has_id, roots}
 use Rattle.indexed_core.specs.Parts.{hold_of, holds_of}
 
@@ -33,11 +33,11 @@ only_lease id (first ∷ rest) lease distinct has is =
     ]
 
 -- the lease that is found by its number and its owner has the one root of that number
-pub root_of_own : (owner id : ℕ) (leases : List Lease) (holds : List Hold) (lease : Lease) → DistinctIds leases → holds ≡ holds_of leases
+pub root_of_own : (owner id : ℕ) (leases : List Lease) (holds : List TableLease) (lease : Lease) → DistinctIds leases → holds ≡ holds_of leases
     → find (λ l. is_lease id l && is_of_owner owner l) leases ≡ Some lease → roots (filter (has_id id) holds) ≡ lease.root ∷ []
 root_of_own owner id leases holds lease distinct same is =
     let f = find_has (λ l. is_lease id l && is_of_owner owner l) leases lease is in
     let numbered : lease.id ≡ id = eqb-true lease.id id (and_parts (is_lease id lease) (is_of_owner owner lease) f.1).0 in
-    ap (λ (hs : List Hold). roots (filter (has_id id) hs)) same
+    ap (λ (hs : List TableLease). roots (filter (has_id id) hs)) same
     ∙ ap roots (filter_of_map hold_of (has_id id) leases)
     ∙ ap (λ (ls : List Lease). roots (holds_of ls)) (only_lease id leases lease distinct f.0 numbered)

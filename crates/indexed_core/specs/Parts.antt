@@ -6,13 +6,13 @@ use Rattle.store_core.specs.declared.state.Row.{Row}
 use Rattle.store_core.specs.declared.state.Lease.{Lease}
 use Rattle.store_core.specs.State.{is_of, digests, sizes}
 use Rattle.store_core.specs.Reach.{blobs, is_reached}
-use Rattle.lease_table.specs.declared.hold.Hold.{Hold}
+use Rattle.lease_table.specs.declared.table_lease.TableLease.{TableLease}
 use Rattle.lease_table.specs.Table.{roots}
 
 -- The rows in the order of their use, the least recent first, and the leases without their owners.
 pub record Parts : Type 0 where
   pub rows : List Row
-  pub holds : List Hold
+  pub holds : List TableLease
 
 -- whether a digest has a row
 abbrev pub has_row : List Row → HashAndSize → Bool
@@ -31,9 +31,9 @@ abbrev pub free : Parts → List HashAndSize
 free p = filter (λ d. not (is_held p d)) (digests p.rows)
 
 -- a lease without its owner
-abbrev pub hold_of : Lease → Hold
+abbrev pub hold_of : Lease → TableLease
 hold_of lease = record { id = lease.id; root = lease.root }
 
 -- leases without their owners
-abbrev pub holds_of : List Lease → List Hold
+abbrev pub holds_of : List Lease → List TableLease
 holds_of leases = map hold_of leases

@@ -1,8 +1,8 @@
 //! `Flags`.
 
-ghost use Rattle.std.specs.Prelude.{◌≡◌, ◌++◌, ◌∷◌, [], not, filter, map, false, true, if◌then◌else◌, OnOk, OnErr};
-ghost use Rattle.std.specs.List.{list_any};
-ghost use Rattle.indexed_core.specs.Joined.{is_flag, sound_in};
+ghost use Rattle.std.specs.Prelude.{◌≡◌, [], not, OnOk, OnErr};
+ghost use Rattle.store_core.specs.State.{same};
+ghost use Rattle.indexed_core.specs.Joined.{told, sound_in, with_flag, set_flag, kept_flags};
 
 use digest_types::Digest;
 use indexmap::IndexMap;
@@ -10,24 +10,19 @@ use proto_wire::OutOfMemory;
 use std::alloc::Global;
 use std::marker::Model;
 
-/// For each row whether it is sound: a look-up.
+/// For each row whether it is sound: a look-up. Only `insert` takes memory.
 #[derive(Debug, Drop)]
 pub(crate) struct Flags {
     flags: IndexMap<Digest, bool>,
 }
 
 impl Model for Flags {
-    ghost use Rattle.std.specs.Prelude.{List, map};
-    ghost use Rattle.std.specs.List.{IsDistinct};
-    ghost use Rattle.std.specs.Map.{keys_of};
-    ghost use Rattle.store_core.specs.State.{same};
-    ghost use Rattle.indexed_core.specs.Joined.{Flag};
+    ghost use Rattle.std.specs.Prelude.{Bool, List};
+    ghost use Rattle.digest_types.specs.Name.{HashAndSize};
 
-    ghost Value = { List Flag };
+    ghost Value = { List (HashAndSize × Bool) };
 
-    ghost view = { λ a. map (λ entry. record { digest = entry.0; sound = entry.1 }) a.flags.entries };
-
-    ghost invariant = { λ a. IsDistinct same (keys_of a.flags.entries) };
+    ghost view = { λ a. a.flags.entries };
 }
 
 impl Flags {
@@ -40,36 +35,35 @@ impl Flags {
         }
     }
 
-    /// Whether a digest has a flag that says sound. It takes no memory.
+    /// Whether a digest has a flag that says sound.
     pub(crate) fn is_sound(&self, digest: &Digest) -> bool
-        ensures { result ≡ sound_in self.now digest.now }
+        ensures { result ≡ sound_in (told self.now) digest.now }
     {
         self.flags.get(digest).copied().unwrap_or(false)
     }
 
     /// Adds the flag of a sound row. After want of memory all is as before.
     pub(crate) fn insert(&mut self, digest: Digest) -> Result<(), OutOfMemory>
-        requires { list_any (is_flag digest) self.old ≡ false }
-        ensures ok { OnOk result (self.new ≡ self.old ++ record { digest = digest; sound = true } ∷ []) }
+        ensures ok { OnOk result (told self.new ≡ with_flag digest (told self.old)) }
         ensures err { OnErr result (self.new ≡ self.old) }
     {
         self.flags.insert(digest, true)?;
         Ok(())
     }
 
-    /// Sets the flag of a digest, if it has one. It takes no memory.
+    /// Sets the flag of a digest, if it has one.
     pub(crate) fn set(&mut self, digest: &Digest, sound: bool)
-        ensures { self.new ≡ map (λ flag. if is_flag digest.now flag then record flag { sound = sound } else flag) self.old }
+        ensures { told self.new ≡ set_flag digest.now sound (told self.old) }
     {
         if let Some(flag) = self.flags.get_mut(digest) {
             *flag = sound;
         }
     }
 
-    /// Takes the flag of a digest out. It takes no memory.
+    /// Takes the flag of a digest out, if it has one.
     pub(crate) fn remove(&mut self, digest: &Digest)
-        ensures { self.new ≡ filter (λ flag. not (is_flag digest.now flag)) self.old }
+        ensures { told self.new ≡ kept_flags (λ q. not (same q digest.now)) (told self.old) }
     {
-        self.flags.shift_remove(digest);
+        self.flags.swap_remove(digest);
     }
 }

@@ -2,14 +2,15 @@
 
 ghost use Rattle.std.specs.Prelude.{◌≡◌, ◌+◌, ◌≤◌, ◌^◌, ◌++◌, ◌∷◌, [], not, filter, take, length, false, true, slice_get, Some, IfOk, IfSome, OnOk, OnErr, IfNone};
 ghost use Rattle.std.specs.Option.{option_copied};
-ghost use Rattle.store_core.specs.State.{row_of, others, is_sound, is_among, sizes, total};
+ghost use Rattle.store_core.specs.State.{same, row_of, others, is_sound, is_among, sizes, total};
 ghost use Rattle.store_core.specs.Reach.{blobs, reached, is_deep};
 ghost use Rattle.store_core.specs.Pass.{victims, without};
 ghost use Rattle.store_core.specs.Standing.{is_plain};
 ghost use Rattle.store_core.specs.Step.{touched, damaged};
 ghost use Rattle.lease_table.specs.Table.{has_id, roots, other_digests, DistinctDigests};
-ghost use Rattle.indexed_core.specs.Joined.{is_flag};
-ghost use Rattle.indexed_core.specs.Parts.{has_row, held_bytes, free};
+ghost use Rattle.indexed_core.specs.Joined.{told, kept_flags};
+ghost use Rattle.digest_types.specs.Name.{HashAndSize};
+ghost use Rattle.indexed_core.specs.Parts.{has_row, held_bytes, free, is_held};
 
 use crate::flags::Flags;
 use digest_types::{Digest, Digests};
@@ -30,13 +31,13 @@ pub(crate) struct Index {
 
 impl Model for Index {
     ghost use Rattle.indexed_core.specs.Parts.{Parts};
-    ghost use Rattle.indexed_core.specs.Joined.{IsJoined, rows_in};
+    ghost use Rattle.indexed_core.specs.Joined.{told, IsJoined, rows_in};
 
     ghost Value = { Parts };
 
-    ghost view = { λ a. record { rows = rows_in a.order a.table.blobs a.flags; holds = a.table.leases } };
+    ghost view = { λ a. record { rows = rows_in a.order a.table.blobs (told a.flags); holds = a.table.leases } };
 
-    ghost invariant = { λ a. IsJoined a.order a.table.blobs a.flags a.used };
+    ghost invariant = { λ a. IsJoined a.order a.table.blobs (told a.flags) a.used };
 }
 
 impl Index {
@@ -57,7 +58,7 @@ impl Index {
     pub(crate) fn len(&self) -> u64
         ensures { result ≡ length self.now.rows }
     {
-        self.order.as_slice().len() as u64
+        self.order.len() as u64
     }
 
     /// How many bytes the rows have: a number that is kept.
@@ -179,6 +180,7 @@ impl Index {
     ) -> Result<(), OutOfMemory>
         requires new { has_row self.old.rows digest.now ≡ false }
         requires others { is_among gone.now digest.now ≡ false }
+        requires unguarded { (d : HashAndSize) → is_among gone.now d ≡ true → is_held self.old d ≡ false }
         requires small { sizes (without gone.now self.old.rows) + digest.now.size ≤ 2 ^ 62 }
         ensures ok { OnOk result (self.new ≡ record self.old {
           rows = without gone.now self.old.rows ++ record { digest = digest.now; edges = option_copied edges.entry; sound = true } ∷ [];
@@ -221,14 +223,14 @@ fn forget_one(order: &mut UseOrder, flags: &mut Flags, used: u64, digest: &Diges
     requires distinct { DistinctDigests order.old }
     requires sum { used ≡ total order.old }
     ensures order { order.new ≡ other_digests digest.now order.old }
-    ensures flags { flags.new ≡ filter (λ flag. not (is_flag digest.now flag)) flags.old }
+    ensures flags { told flags.new ≡ kept_flags (λ q. not (same q digest.now)) (told flags.old) }
     ensures used { result ≡ total order.new }
 {
-    let len = order.as_slice().len();
+    let len = order.len();
     order.remove(digest);
     flags.remove(digest);
     // A digest that isn't in the order takes no bytes with it.
-    if order.as_slice().len() < len {
+    if order.len() < len {
         used - digest.size
     } else {
         used
@@ -241,7 +243,7 @@ fn forget(order: &mut UseOrder, flags: &mut Flags, used: u64, gone: &[Digest]) -
     requires distinct { DistinctDigests order.old }
     requires sum { used ≡ total order.old }
     ensures order { order.new ≡ filter (λ d. not (is_among gone.now d)) order.old }
-    ensures flags { flags.new ≡ filter (λ flag. not (is_among gone.now flag.digest)) flags.old }
+    ensures flags { told flags.new ≡ kept_flags (λ q. not (is_among gone.now q)) (told flags.old) }
     ensures used { result ≡ total order.new }
 {
     let mut left = used;

@@ -102,7 +102,7 @@ fn add_use(order: &mut UseOrder, digest: &Digest, gone: &Digests) -> Option<()> 
     for other in gone.as_slice() {
         order.remove(other);
     }
-    if is_one_of(order.as_slice(), digest) {
+    if order.has(digest) {
         return None;
     }
     order.add(*digest).ok()
@@ -161,7 +161,7 @@ fn lease_one(kept: &mut Kept, number: u32) -> Option<()> {
 
 /// A row is put, and the least recently used one goes for it.
 fn pass_one(kept: &mut Kept, number: u32) -> Option<()> {
-    let used = kept.order.as_slice().len() as u64;
+    let used = kept.order.len() as u64;
     let count = kept
         .order
         .victims(&kept.table, used, used.saturating_sub(1));
@@ -186,7 +186,7 @@ fn run(rt: &HostRuntime) -> Option<u64> {
             _ => return None,
         }
     }
-    Some(kept.order.as_slice().len() as u64)
+    Some(kept.order.len() as u64)
 }
 
 fn main(rt: HostRuntime) -> ExitCode {

@@ -1,9 +1,12 @@
 pub mod RowLaws
-pub mod MarkLaws
-pub mod NearLaws
-pub mod ByteLaws
 pub mod TableLaws
-pub mod GuardLaws
 pub mod VictimLaws
 pub mod OrderLaws
-pub mod PairLaws
+pub mod SlotLaws
+pub mod PairKeyLaws
+pub mod PairSetLaws
+pub mod DepthLaws
+pub mod TallyLaws
+pub mod LeaseReachLaws
+pub mod LeaseReachesLaws
+pub mod KeptLaws

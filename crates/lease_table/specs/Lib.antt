@@ -1,4 +1,7 @@
 pub mod Table
+pub mod Slots
 pub mod Rows
-pub mod Marking
-pub mod Guarding
+pub mod Pairs
+pub mod PairKeys
+pub mod Tallies
+pub mod LeaseReaches

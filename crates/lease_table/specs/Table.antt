@@ -5,12 +5,12 @@ use Rattle.digest_types.specs.Name.{HashAndSize}
 use Rattle.directory_canon.specs.declared.node.Edge.{Edge}
 use Rattle.store_core.specs.State.{same, is_among}
 use Rattle.store_core.specs.Reach.{Linked, is_reached}
-use Rattle.lease_table.specs.declared.hold.Hold.{Hold}
+use Rattle.lease_table.specs.declared.table_lease.TableLease.{TableLease}
 
 -- The blobs of the rows, in the order in which they were put, and the leases, in the order in which they were taken.
 pub record Table : Type 0 where
   pub blobs : List Linked
-  pub leases : List Hold
+  pub leases : List TableLease
 
 -- whether a blob has this digest
 abbrev pub is_blob : HashAndSize → Linked → Bool
@@ -21,16 +21,16 @@ abbrev pub has_row : Table → HashAndSize → Bool
 has_row t d = list_any (is_blob d) t.blobs
 
 -- whether a lease has this number
-abbrev pub has_id : ℕ → Hold → Bool
-has_id id hold = nat_eq hold.id id
+abbrev pub has_id : ℕ → TableLease → Bool
+has_id id lease = nat_eq lease.id id
 
 -- whether the table has a lease with this number
 abbrev pub has_lease : Table → ℕ → Bool
 has_lease t id = list_any (has_id id) t.leases
 
 -- the roots of the leases
-abbrev pub roots : List Hold → List Edge
-roots leases = map (λ hold. hold.root) leases
+abbrev pub roots : List TableLease → List Edge
+roots leases = map (λ lease. lease.root) leases
 
 -- the root of the lease with this number, as a list
 abbrev pub root_of : Table → ℕ → List Edge

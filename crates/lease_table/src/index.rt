@@ -1,11 +1,16 @@
 //! `Index`.
 
-ghost use Rattle.std.specs.Prelude.{◌≡◌, ◌<◌, ◌^◌, ◌∷◌, ◌++◌, not, filter, length, position, [], false, is_some, unwrap_or, slice_get, Some, IfSome, OnOk, OnErr};
+ghost use Rattle.std.specs.Prelude.{◌≡◌, ◌<◌, ◌&&◌, ◌∷◌, ◌++◌, [], false, is_some, unwrap_or, if◌then◌else◌, Some, OnOk, OnErr};
 ghost use Rattle.std.specs.List.{list_any};
-ghost use Rattle.store_core.specs.Reach.{Linked, edges_of};
-ghost use Rattle.store_core.specs.State.{is_among};
+ghost use Rattle.std.specs.Map.{lookup};
+ghost use Rattle.indexmap.specs.IndexMap.{spare};
+ghost use Rattle.digest_types.specs.Name.{HashAndSize};
+ghost use Rattle.directory_canon.specs.declared.node.Edge.{Edge as Pair};
+ghost use Rattle.store_core.specs.Reach.{is_pair, links_to};
+ghost use Rattle.store_core.specs.State.{same, is_among};
 ghost use Rattle.lease_table.specs.Table.{is_blob, without, others, Distinct};
 
+use crate::slots::Slots;
 use digest_types::Digest;
 use directory_canon::{Edge, Edges};
 use indexmap::IndexMap;
@@ -13,27 +18,27 @@ use proto_wire::OutOfMemory;
 use std::alloc::Global;
 use std::marker::Model;
 
-/// The rows in the order in which they came, with the place of each digest.
+/// The rows in the order in which they came, each found by a look-up. Only `push` takes memory.
 #[derive(Debug, Drop)]
 pub(crate) struct Index {
-    rows: IndexMap<Digest, Option<Edges>>,
+    order: Slots,
+    edges: IndexMap<Digest, Option<Edges>>,
 }
 
 impl Model for Index {
     ghost use Rattle.std.specs.Prelude.{List};
     ghost use Rattle.store_core.specs.Reach.{Linked};
-    ghost use Rattle.lease_table.specs.Table.{Distinct};
-    ghost use Rattle.lease_table.specs.Rows.{linked};
+    ghost use Rattle.lease_table.specs.Rows.{rows_in, IsIndexed};
 
     ghost Value = { List Linked };
 
-    ghost view = { λ a. linked a.rows.entries };
+    ghost view = { λ a. rows_in a.order a.edges.entries };
 
-    ghost invariant = { λ a. Distinct (linked a.rows.entries) };
+    ghost invariant = { λ a. IsIndexed a.order a.edges.entries };
 }
 
 /// Whether a digest is among these.
-fn is_among(digests: &[Digest], digest: &Digest) -> bool
+pub(crate) fn is_among(digests: &[Digest], digest: &Digest) -> bool
     ensures { result ≡ is_among digests.now digest.now }
 {
     digests.iter().any(|other| digest == other)
@@ -45,51 +50,37 @@ impl Index {
         ensures { result ≡ [] }
     {
         Index {
-            rows: IndexMap::new(alloc),
+            order: Slots::new(alloc),
+            edges: IndexMap::new(alloc),
         }
     }
 
-    pub(crate) fn len(&self) -> usize
-        ensures len { result ≡ length self.now }
+    /// Whether a digest has a row.
+    pub(crate) fn has(&self, digest: &Digest) -> bool
+        ensures has { result ≡ list_any (is_blob digest.now) self.now }
         ensures distinct { Distinct self.now }
     {
-        self.rows.len()
+        self.edges.contains_key(digest)
     }
 
-    /// Where the row of a digest stands: a look-up.
-    pub(crate) fn place_of(&self, digest: &Digest) -> Option<usize>
-        ensures place { result ≡ position (is_blob digest.now) self.now }
-        ensures distinct { Distinct self.now }
+    /// What the row of a digest links to: nothing where there is none.
+    pub(crate) fn edges_of(&self, digest: &Digest) -> &[Edge]
+        ensures { (pair : Pair) → list_any (is_pair pair) result.now ≡ list_any (λ row. is_blob digest.now row && links_to row.edges pair) self.now }
     {
-        self.rows.get_index_of(digest)
-    }
-
-    /// The digest of a row.
-    pub(crate) fn digest_at(&self, place: usize) -> Digest
-        requires { place < length self.now }
-        ensures { IfSome (slice_get self.now place) (λ row. result ≡ row.digest) }
-    {
-        let (digest, _) = self.rows.get_index(place).unwrap();
-        *digest
-    }
-
-    /// What a row links to.
-    pub(crate) fn edges_at(&self, place: usize) -> &[Edge]
-        requires { place < length self.now }
-        ensures { IfSome (slice_get self.now place) (λ row. result.now ≡ edges_of row) }
-    {
-        match &self.rows[place] {
-            Some(edges) => edges.as_slice(),
+        match self.edges.get(digest) {
+            Some(edges) => listed(edges),
             None => &[],
         }
     }
 
-    /// Whether a row is that of a Directory.
-    pub(crate) fn is_dir_at(&self, place: usize) -> bool
-        requires { place < length self.now }
-        ensures { IfSome (slice_get self.now place) (λ row. result ≡ is_some row.edges) }
+    /// Whether a digest has a row with edges.
+    pub(crate) fn is_dir(&self, digest: &Digest) -> bool
+        ensures { result ≡ list_any (λ row. is_blob digest.now row && is_some row.edges) self.now }
     {
-        self.rows[place].is_some()
+        match self.edges.get(digest) {
+            Some(edges) => edges.is_some(),
+            None => false,
+        }
     }
 
     /// Adds a row as the last one. After want of memory all is as before.
@@ -98,25 +89,47 @@ impl Index {
         ensures ok { OnOk result (self.new ≡ self.old ++ record { digest = digest; edges = edges } ∷ []) }
         ensures err { OnErr result (self.new ≡ self.old) }
     {
-        self.rows.insert(digest, edges)?;
+        self.edges.reserve(1)?;
+        self.order.add(digest)?;
+        insert(&mut self.edges, digest, edges);
         Ok(())
     }
 
-    /// Removes the rows of these digests, and keeps the order. It takes no memory.
-    pub(crate) fn remove(&mut self, gone: &[Digest])
-        ensures { self.new ≡ without gone.now self.old }
-    {
-        self.rows.retain(
-            |digest: &Digest, edges: &mut Option<Edges>| -> bool
-                ensures { (result ≡ not (is_among gone.entry.now digest.now)) × (edges.new ≡ edges.old) }
-            { !is_among(gone, digest) },
-        );
-    }
-
-    /// Removes the row of a digest, and keeps the order. It takes no memory.
+    /// Removes the row of a digest, if it has one.
     pub(crate) fn remove_one(&mut self, digest: &Digest)
         ensures { self.new ≡ others digest.now self.old }
     {
-        self.rows.shift_remove(digest);
+        self.order.remove(digest);
+        self.edges.swap_remove(digest);
+    }
+
+    /// Removes the rows of these digests.
+    pub(crate) fn remove(&mut self, gone: &[Digest])
+        ensures { self.new ≡ without gone.now self.old }
+    {
+        'gone: for digest in gone {
+            self.remove_one(digest);
+        }
+    }
+}
+
+/// The edges, if there are any.
+fn listed(edges: &Option<Edges>) -> &[Edge]
+    ensures { result.now ≡ unwrap_or edges.now [] }
+{
+    match edges {
+        Some(edges) => edges.as_slice(),
+        None => &[],
+    }
+}
+
+/// Inserts the edges of a digest within the room that there is.
+fn insert(entries: &mut IndexMap<Digest, Option<Edges>>, digest: Digest, edges: Option<Edges>)
+    requires { 0 < spare entries.old }
+    ensures { (d : HashAndSize) → lookup (same d) entries.new.entries ≡ (if same digest d then Some edges else lookup (same d) entries.old.entries) }
+{
+    match entries.insert(digest, edges) {
+        Ok(_) => {}
+        Err(_) => {}
     }
 }

@@ -1,40 +1,44 @@
 //! `LeaseTable`.
 
-ghost use Rattle.std.specs.Prelude.{◌≡◌, ◌≤◌, ◌+◌, ◌^◌, ◌∷◌, ◌++◌, not, filter, [], false, IfOk, OnOk, OnErr};
+ghost use Rattle.std.specs.Prelude.{◌≡◌, ◌≤◌, ◌+◌, ◌^◌, ◌∷◌, ◌++◌, not, filter, [], true, false, IfOk, OnOk, OnErr};
 ghost use Rattle.std.specs.Option.{option_copied};
 ghost use Rattle.store_core.specs.Reach.{reached, is_deep};
 ghost use Rattle.store_core.specs.State.{is_among};
+ghost use Rattle.digest_types.specs.Name.{HashAndSize};
 ghost use Rattle.lease_table.specs.Table.{has_row, has_id, root_of, is_guarded, guarded, sizes, without, others, is_dir_row};
 
-use crate::guards::Guards;
-use crate::hold::Hold;
+use crate::depth::is_deep;
 use crate::index::Index;
-use crate::reach::{holds_of, is_deep, reached};
+use crate::lease_reach::LeaseReach;
+use crate::lease_reaches::{count_grown, pairs_of, prepare, reach_of, release, roots_of, take_up};
+use crate::table_lease::TableLease;
+use crate::tally::Tally;
 use digest_types::{Digest, Digests};
 use directory_canon::{Edge, Edges, Kind};
 use proto_wire::OutOfMemory;
 use std::alloc::Global;
 use std::marker::Model;
+use store_core::sort_pairs;
 
-/// The leases and what they guard. Each change walks over all rows and what they link to, once for each level of the
-/// trees that are held.
+/// The leases and what they guard. For each lease the pairs that it reaches are kept, for each digest how many leases
+/// reach it, and how many bytes the rows have that some lease reaches.
 #[derive(Debug, Drop)]
 pub struct LeaseTable {
     alloc: Global,
     rows: Index,
-    holds: Vec<Hold>,
-    guards: Guards,
+    kept: Vec<LeaseReach>,
+    tally: Tally,
 }
 
 impl Model for LeaseTable {
     ghost use Rattle.lease_table.specs.Table.{Table};
-    ghost use Rattle.lease_table.specs.Guarding.{IsMarked};
+    ghost use Rattle.lease_table.specs.LeaseReaches.{leases_of, IsKept};
 
     ghost Value = { Table };
 
-    ghost view = { λ a. record { blobs = a.rows; leases = a.holds.items } };
+    ghost view = { λ a. record { blobs = a.rows; leases = leases_of a.kept.items } };
 
-    ghost invariant = { λ a. IsMarked a.rows a.holds.items a.guards };
+    ghost invariant = { λ a. IsKept a.rows a.kept.items a.tally.counts.entries a.tally.bytes };
 }
 
 impl LeaseTable {
@@ -45,8 +49,8 @@ impl LeaseTable {
         LeaseTable {
             alloc,
             rows: Index::new(alloc),
-            holds: Vec::new(alloc),
-            guards: Guards::new(alloc),
+            kept: Vec::new(alloc),
+            tally: Tally::new(alloc),
         }
     }
 
@@ -55,20 +59,22 @@ impl LeaseTable {
         ensures ok { OnOk result (self.new ≡ record self.old { leases = self.old.leases ++ record { id = id; root = record { kind = kind; digest = root } } ∷ [] }) }
         ensures err { OnErr result (self.new ≡ self.old) }
     {
-        self.holds.push(Hold {
+        let lease = TableLease {
             id,
             root: Edge { kind, digest: root },
-        })?;
-        self.guards.renew(&self.rows, &self.holds);
+        };
+        let reach = reach_of(self.alloc, &self.rows, lease)?;
+        self.tally.reserve(reach.pairs.len())?;
+        self.kept.reserve(1)?;
+        take_up(&self.rows, &mut self.tally, &mut self.kept, reach);
         Ok(())
     }
 
     /// Gives a lease up. It takes no memory.
     pub fn release(&mut self, id: u64)
-        ensures { self.new ≡ record self.old { leases = filter (λ hold. not (has_id id hold)) self.old.leases } }
+        ensures { self.new ≡ record self.old { leases = filter (λ lease. not (has_id id lease)) self.old.leases } }
     {
-        release(&mut self.holds, id);
-        self.guards.renew(&self.rows, &self.holds);
+        release(&self.rows, &mut self.tally, &mut self.kept, id);
     }
 
     /// Removes the rows of `gone`, and adds one with these edges. After want of memory all is as before.
@@ -80,86 +86,88 @@ impl LeaseTable {
     ) -> Result<(), OutOfMemory>
         requires new { has_row self.old digest.now ≡ false }
         requires others { is_among gone.now digest.now ≡ false }
+        requires unguarded { (d : HashAndSize) → is_among gone.now d ≡ true → is_guarded self.old d ≡ false }
         requires small { sizes (without gone.now self.old.blobs) + digest.now.size ≤ 2 ^ 62 }
         ensures ok { OnOk result (self.new ≡ record self.old { blobs = without gone.now self.old.blobs ++ record { digest = digest.now; edges = option_copied edges.entry } ∷ [] }) }
         ensures err { OnErr result (self.new ≡ self.old) }
     {
         // All that may fail for memory comes before any row goes.
-        let edges = copied(self.alloc, edges)?;
-        self.guards.reserve()?;
-        self.rows.push(*digest, edges)?;
-        self.guards.push();
-        self.rows.remove(gone.as_slice());
-        self.guards.truncate(self.rows.len());
-        self.guards.renew(&self.rows, &self.holds);
-        Ok(())
+        let copy = copied(self.alloc, edges)?;
+        self.rows.push(*digest, copy)?;
+        match prepare(
+            &self.rows,
+            gone.as_slice(),
+            &mut self.tally,
+            &mut self.kept,
+            digest,
+            edges,
+        ) {
+            Ok(grown) => {
+                self.rows.remove(gone.as_slice());
+                self.tally.add_row(digest);
+                count_grown(&self.rows, &mut self.tally, &mut self.kept, grown);
+                Ok(())
+            }
+            Err(e) => {
+                self.rows.remove_one(digest);
+                Err(e)
+            }
+        }
     }
 
     /// Removes a row. It takes no memory.
     pub fn on_remove(&mut self, digest: &Digest)
+        requires { is_guarded self.old digest.now ≡ false }
         ensures { self.new ≡ record self.old { blobs = others digest.now self.old.blobs } }
     {
         self.rows.remove_one(digest);
-        self.guards.truncate(self.rows.len());
-        self.guards.renew(&self.rows, &self.holds);
     }
 
     /// Whether the digest has a row that a lease reaches: a look-up. It takes no memory.
     pub fn is_guarded(&self, digest: &Digest) -> bool
         ensures { result ≡ is_guarded self.now digest.now }
     {
-        match self.rows.place_of(digest) {
-            Some(place) => self.guards.is_reached(place),
-            None => false,
-        }
+        self.rows.has(digest) && self.tally.count(digest) > 0
     }
 
     /// How many bytes the guarded rows have: a number that is kept. It takes no memory.
     pub fn guarded_bytes(&self) -> u64
         ensures { result ≡ guarded self.now }
     {
-        self.guards.bytes()
+        self.tally.bytes()
     }
 
     /// The pairs that a lease reaches, each once, ascending by digest with a file before a Directory.
     pub fn reached(&self, id: u64) -> Result<Edges, OutOfMemory>
         ensures { IfOk result (λ pairs. pairs ≡ reached self.now.blobs (root_of self.now id)) }
     {
-        let own = holds_of(self.alloc, &self.holds, id)?;
-        Ok(Edges::from_vec(reached(self.alloc, &self.rows, &own)?))
+        let mut pairs = pairs_of(self.alloc, &self.kept, id)?;
+        sort_pairs(&mut pairs);
+        Ok(Edges::from_vec(pairs))
     }
 
     /// Whether a lease reaches a pair of kind Dir that is at least so many steps from its root.
     pub fn is_deep(&self, id: u64, steps: u64) -> Result<bool, OutOfMemory>
         ensures { IfOk result (λ deep. deep ≡ is_deep self.now.blobs (root_of self.now id) steps) }
     {
-        let own = holds_of(self.alloc, &self.holds, id)?;
-        is_deep(self.alloc, &self.rows, &own, steps)
+        let starts = roots_of(self.alloc, &self.kept, id)?;
+        let pairs = pairs_of(self.alloc, &self.kept, id)?;
+        is_deep(self.alloc, &self.rows, &starts, &pairs, steps)
     }
 
     /// Whether the digest has a row: a look-up. It takes no memory.
     pub fn has_row(&self, digest: &Digest) -> bool
         ensures { result ≡ has_row self.now digest.now }
     {
-        self.rows.place_of(digest).is_some()
+        self.rows.has(digest)
     }
 
     /// Whether the digest has a row with edges: a look-up. It takes no memory.
     pub fn is_dir(&self, digest: &Digest) -> bool
         ensures { result ≡ is_dir_row self.now digest.now }
     {
-        match self.rows.place_of(digest) {
-            Some(place) => self.rows.is_dir_at(place),
-            None => false,
-        }
+        self.rows.is_dir(digest)
     }
-}
-
-/// Takes the leases with this number away.
-fn release(holds: &mut Vec<Hold>, id: u64)
-    ensures { holds.new.items ≡ filter (λ hold. not (has_id id hold)) holds.old.items }
-{
-    holds.retain(|hold| hold.id != id);
 }
 
 /// A copy of the edges.

@@ -1,33 +1,33 @@
 //! `UseOrder`.
 
-ghost use Rattle.std.specs.Prelude.{◌≡◌, ◌∷◌, ◌++◌, [], not, find, position, take, slice_get, true, false, IfOk, OnOk, OnErr};
-ghost use Rattle.store_core.specs.State.{same, is_among};
+ghost use Rattle.std.specs.Prelude.{◌≡◌, ◌∷◌, ◌++◌, [], not, length, take, slice_get, true, false, IfOk, OnOk, OnErr};
+ghost use Rattle.store_core.specs.State.{is_among};
 ghost use Rattle.store_core.specs.Pass.{victims};
-ghost use Rattle.lease_table.specs.Table.{is_guarded, other_digests, unguarded, DistinctDigests};
+ghost use Rattle.lease_table.specs.Table.{is_guarded, other_digests, unguarded};
+ghost use Rattle.lease_table.specs.Slots.{live};
 
+use crate::slots::Slots;
 use crate::table::LeaseTable;
 use digest_types::{Digest, Digests};
 use proto_wire::OutOfMemory;
 use std::alloc::Global;
 use std::marker::Model;
 
-/// The digests of the rows in the order of their use, the least recent first. Its calls walk over the list.
+/// The digests of the rows in the order of their use, the least recent first. A use costs constant time, taken over
+/// many; a pass walks over what it passes.
 #[derive(Debug, Drop)]
 pub struct UseOrder {
     alloc: Global,
-    digests: Vec<Digest>,
+    slots: Slots,
 }
 
 impl Model for UseOrder {
     ghost use Rattle.std.specs.Prelude.{List};
     ghost use Rattle.digest_types.specs.Name.{HashAndSize};
-    ghost use Rattle.lease_table.specs.Table.{DistinctDigests};
 
     ghost Value = { List HashAndSize };
 
-    ghost view = { λ a. a.digests.items };
-
-    ghost invariant = { λ a. DistinctDigests a.digests.items };
+    ghost view = { λ a. a.slots };
 }
 
 impl UseOrder {
@@ -37,7 +37,7 @@ impl UseOrder {
     {
         UseOrder {
             alloc,
-            digests: Vec::new(alloc),
+            slots: Slots::new(alloc),
         }
     }
 
@@ -46,14 +46,14 @@ impl UseOrder {
         requires { is_among self.old digest.now ≡ true }
         ensures { self.new ≡ other_digests digest.now self.old ++ digest.now ∷ [] }
     {
-        move_back(&mut self.digests, digest);
+        self.slots.touch(digest);
     }
 
     /// Takes a digest out. It takes no memory.
     pub fn remove(&mut self, digest: &Digest)
         ensures { self.new ≡ other_digests digest.now self.old }
     {
-        remove(&mut self.digests, digest);
+        self.slots.remove(digest);
     }
 
     /// Adds a digest as the most recent one. After want of memory all is as before.
@@ -62,15 +62,21 @@ impl UseOrder {
         ensures ok { OnOk result (self.new ≡ self.old ++ digest ∷ []) }
         ensures err { OnErr result (self.new ≡ self.old) }
     {
-        self.digests.push(digest)?;
-        Ok(())
+        self.slots.add(digest)
     }
 
-    /// The digests, the least recently used first. It takes no memory.
-    pub fn as_slice(&self) -> &[Digest]
-        ensures { result.now ≡ self.now }
+    /// How many digests there are. It takes no memory.
+    pub fn len(&self) -> usize
+        ensures { result ≡ length self.now }
     {
-        self.digests.as_slice()
+        self.slots.len()
+    }
+
+    /// Whether a digest is among them: a look-up. It takes no memory.
+    pub fn has(&self, digest: &Digest) -> bool
+        ensures { result ≡ is_among self.now digest.now }
+    {
+        self.slots.has(digest)
     }
 
     /// How many unguarded digests a pass removes, so that at most `target` of the `used` bytes are left: the least such
@@ -78,46 +84,23 @@ impl UseOrder {
     pub fn victims(&self, leases: &LeaseTable, used: u64, target: u64) -> u64
         ensures { result ≡ victims (unguarded leases.now self.now) used target }
     {
-        victims(&self.digests, leases, used, target)
+        victims(self.slots.as_slice(), leases, used, target)
     }
 
     /// The least recently used digest that isn't guarded. It takes no memory.
     pub fn first_unguarded(&self, leases: &LeaseTable) -> Option<Digest>
         ensures { result ≡ slice_get (unguarded leases.now self.now) 0 }
     {
-        first_unguarded(&self.digests, leases)
+        first_unguarded(self.slots.as_slice(), leases)
     }
 
     /// The first `count` unguarded digests in the order of use, or all where there are fewer.
     pub fn gone(&self, leases: &LeaseTable, count: u64) -> Result<Digests, OutOfMemory>
         ensures { IfOk result (λ ds. ds ≡ take count (unguarded leases.now self.now)) }
     {
-        Ok(Digests::from_vec(gone(self.alloc, &self.digests, leases, count)?))
+        let digests = gone(self.alloc, self.slots.as_slice(), leases, count)?;
+        Ok(Digests::from_vec(digests))
     }
-}
-
-/// Where a digest stands.
-fn place_of(digests: &[Digest], digest: &Digest) -> Option<usize>
-    ensures { result ≡ position (same digest.now) digests.now }
-{
-    digests.iter().position(|other| digest == other)
-}
-
-/// Makes a digest the last one.
-fn move_back(digests: &mut [Digest], digest: &Digest)
-    requires distinct { DistinctDigests digests.old }
-    requires there { is_among digests.old digest.now ≡ true }
-    ensures { digests.new ≡ other_digests digest.now digests.old ++ digest.now ∷ [] }
-{
-    if let Some(place) = place_of(digests, digest) {
-        digests[place..].rotate_left(1);
-    }
-}
-
-fn remove(digests: &mut Vec<Digest>, digest: &Digest)
-    ensures { digests.new.items ≡ other_digests digest.now digests.old.items }
-{
-    digests.retain(|other| other != digest);
 }
 
 /// Whether a pass may remove a digest.
@@ -127,16 +110,28 @@ fn may_go(leases: &LeaseTable, digest: &Digest) -> bool
     !leases.is_guarded(digest)
 }
 
-fn victims(digests: &[Digest], leases: &LeaseTable, used: u64, target: u64) -> u64
-    ensures { result ≡ victims (unguarded leases.now digests.now) used target }
+/// The digest of a slot, if a pass may remove it.
+fn loose(slot: Option<Digest>, leases: &LeaseTable) -> Option<Digest>
+    ensures { result ≡ slice_get (unguarded leases.now (live (slot ∷ []))) 0 }
+{
+    let digest = slot?;
+    if may_go(leases, &digest) {
+        Some(digest)
+    } else {
+        None
+    }
+}
+
+fn victims(slots: &[Option<Digest>], leases: &LeaseTable, used: u64, target: u64) -> u64
+    ensures { result ≡ victims (unguarded leases.now (live slots.now)) used target }
 {
     let mut left = used;
     let mut count = 0;
-    'digests: for digest in digests {
+    'slots: for slot in slots {
         if left <= target {
             return count;
         }
-        if may_go(leases, digest) {
+        if let Some(digest) = loose(*slot, leases) {
             left = left.saturating_sub(digest.size);
             count += 1;
         }
@@ -144,29 +139,35 @@ fn victims(digests: &[Digest], leases: &LeaseTable, used: u64, target: u64) -> u
     count
 }
 
-fn first_unguarded(digests: &[Digest], leases: &LeaseTable) -> Option<Digest>
-    ensures { result ≡ find (λ d. not (is_guarded leases.now d)) digests.now }
+fn first_unguarded(slots: &[Option<Digest>], leases: &LeaseTable) -> Option<Digest>
+    ensures { result ≡ slice_get (unguarded leases.now (live slots.now)) 0 }
 {
-    digests
-        .iter()
-        .find(|digest| may_go(leases, digest))
-        .copied()
+    'slots: for slot in slots {
+        if let Some(digest) = loose(*slot, leases) {
+            return Some(digest);
+        }
+    }
+    None
 }
 
 fn gone(
     alloc: Global,
-    digests: &[Digest],
+    slots: &[Option<Digest>],
     leases: &LeaseTable,
     count: u64,
 ) -> Result<Vec<Digest>, OutOfMemory>
-    ensures { IfOk result (λ ds. ds.items ≡ take count (unguarded leases.now digests.now)) }
+    ensures { IfOk result (λ ds. ds.items ≡ take count (unguarded leases.now (live slots.now))) }
 {
-    Ok(
-        digests
-            .iter()
-            .filter(|digest| may_go(leases, digest))
-            .take(count as usize)
-            .copied()
-            .collect(alloc)?,
-    )
+    let mut digests = Vec::new(alloc);
+    let mut left = count;
+    'slots: for slot in slots {
+        if left == 0 {
+            return Ok(digests);
+        }
+        if let Some(digest) = loose(*slot, leases) {
+            digests.push(digest)?;
+            left -= 1;
+        }
+    }
+    Ok(digests)
 }

@@ -1,3 +1,4 @@
+use Rattle.indexed_core.specs.Joined.{told}
 use Rattle.std.proofs.Common.{sym, ap, ◌∙◌}
 use Rattle.indexed_core.specs.Parts.{Parts, has_row}
 use Rattle.indexed_core.proofs.JoinedLaws.{row_among}
@@ -9,5 +10,5 @@ returns c =
     let d = c.args.digest.now in
     c.has_row.ensures
     ∙ c.self.invariant.has_blobs d
-    ∙ sym (row_among a.order a.table.blobs a.flags d)
+    ∙ sym (row_among a.order a.table.blobs (told a.flags) d)
     ∙ ap (λ (p : Parts). has_row p.rows d) c.self.view_is

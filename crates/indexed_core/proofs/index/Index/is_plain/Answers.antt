@@ -3,7 +3,7 @@ use Rattle.std.specs.Prelude.{is_some}
 use Rattle.std.specs.List.{list_any}
 use Rattle.store_core.specs.Standing.{is_plain}
 use Rattle.lease_table.specs.Table.{is_blob}
-use Rattle.indexed_core.specs.Joined.{sound_in}
+use Rattle.indexed_core.specs.Joined.{told, sound_in}
 use Rattle.indexed_core.specs.Parts.{Parts}
 use Rattle.indexed_core.proofs.JoinedLaws.{plain_told}
 use Rattle.indexed_core.proofs.index.Index.is_plain.Goals as goal
@@ -22,8 +22,8 @@ returns-then-is_sound c =
     let a = c.self.inside in
     let d = c.args.digest.now in
     ap not c.is_dir.ensures
-    ∙ by_sound (sound_in a.flags d) (not (list_any (λ blob. is_blob d blob && is_some blob.edges) a.table.blobs)) _ (sym c.is_sound.ensures ∙ c.if-is_sound.true)
-    (plain_told a.order a.table.blobs a.flags a.used d c.self.invariant)
+    ∙ by_sound (sound_in (told a.flags) d) (not (list_any (λ blob. is_blob d blob && is_some blob.edges) a.table.blobs)) _ (sym c.is_sound.ensures ∙ c.if-is_sound.true)
+    (plain_told a.order a.table.blobs (told a.flags) a.used d c.self.invariant)
     ∙ ap (λ (p : Parts). is_plain p.rows d) c.self.view_is
 
 pub returns-else-is_sound : goal.returns-else-is_sound
@@ -31,6 +31,6 @@ returns-else-is_sound c =
     let a = c.self.inside in
     let d = c.args.digest.now in
     c.is_sound.ensures
-    ∙ by_unsound (sound_in a.flags d) (not (list_any (λ blob. is_blob d blob && is_some blob.edges) a.table.blobs)) _ (sym c.is_sound.ensures ∙ c.if-is_sound.false)
-    (plain_told a.order a.table.blobs a.flags a.used d c.self.invariant)
+    ∙ by_unsound (sound_in (told a.flags) d) (not (list_any (λ blob. is_blob d blob && is_some blob.edges) a.table.blobs)) _ (sym c.is_sound.ensures ∙ c.if-is_sound.false)
+    (plain_told a.order a.table.blobs (told a.flags) a.used d c.self.invariant)
     ∙ ap (λ (p : Parts). is_plain p.rows d) c.self.view_is

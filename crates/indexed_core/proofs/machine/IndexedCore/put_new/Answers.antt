@@ -1,3 +1,4 @@
+use Rattle.indexed_core.proofs.MachineChanges.{gone_free}
 use Rattle.std.proofs.Common.{◌≡◌, ◌∙◌, ◌∷◌, ◌++◌, [], List, Option, None, sym, ap, subst, refl, arith}
 use Rattle.digest_types.specs.Name.{HashAndSize}
 use Rattle.directory_canon.specs.declared.node.Edge.{Edge}
@@ -80,3 +81,8 @@ returns-clause-rows c =
     subst (λ (t : State). PutsRow d (replies.Stored c.len.result c.used.result) c.in_ok-gone.gone t.rows c.add.new.self.rows) c.self.view_is
     (subst (λ (rows : List Row). PutsRow d (replies.Stored c.len.result c.used.result) c.in_ok-gone.gone s.rows rows) (sym added)
     (fits_puts s d edges c.in_ok-gone.gone fits c.len.result c.used.result c.len.ensures))
+
+pub add-requires-clause-unguarded : goal.add-requires-clause-unguarded
+add-requires-clause-unguarded c = λ d e.
+    let s = the_view c.self.inside in
+    gone_free s c.args.self.now c.self.inside.index c.digest.inside.size c.in_ok-gone.gone d c.self.view_is refl c.self.invariant.0 c.in_ok-gone.ensures e

@@ -1,16 +1,24 @@
-use Rattle.std.proofs.Common.{sym, ◌∙◌, ap}
-use Rattle.lease_table.specs.Table.{Table, is_guarded}
-use Rattle.lease_table.proofs.TableLaws.{guarded_at, unguarded_nowhere}
+use Rattle.std.proofs.Common.{◌∙◌, ◌&&◌, ℕ, Bool, sym, ap}
+use Rattle.std.specs.Prelude.{nat_lt}
+use Rattle.store_core.specs.Reach.{is_reached}
+use Rattle.lease_table.specs.Table.{Table, roots, is_guarded}
+use Rattle.lease_table.specs.LeaseReaches.{leases_of}
+use Rattle.lease_table.proofs.KeptLaws.{reached_told}
 use Rattle.lease_table.proofs.table.LeaseTable.is_guarded.Goals as goal
 
-pub returns-in-Some : goal.returns-in-Some
-returns-in-Some c =
+pub returns-then-has : goal.returns-then-has
+returns-then-has c =
     let inside = c.self.inside in
-    c.is_reached.ensures
-    ∙ guarded_at inside.rows inside.holds.items c.args.digest.now c.in-Some.place inside.guards.files.items inside.guards.dirs.items (sym c.in-Some.ensures.place) c.self.invariant.in_files c.self.invariant.in_dirs
-    ∙ ap (λ (t : Table). is_guarded t c.args.digest.now) c.self.view_is
+    let d = c.args.digest.now in
+    ap (λ (n : ℕ). nat_lt 0 n) (c.count.ensures ∙ c.self.invariant.tallied.counted d)
+    ∙ reached_told inside.rows inside.kept.items d c.self.invariant.reached
+    ∙ ap (λ (b : Bool). b && is_reached inside.rows (roots (leases_of inside.kept.items)) d) (sym (sym c.has.ensures.has ∙ c.if-has.true))
+    ∙ ap (λ (t : Table). is_guarded t d) c.self.view_is
 
-pub returns-in-None : goal.returns-in-None
-returns-in-None c =
-    unguarded_nowhere c.self.inside.rows c.self.inside.holds.items c.args.digest.now (sym c.in-None.ensures.place)
-    ∙ ap (λ (t : Table). is_guarded t c.args.digest.now) c.self.view_is
+pub returns-else-has : goal.returns-else-has
+returns-else-has c =
+    let inside = c.self.inside in
+    let d = c.args.digest.now in
+    c.if-has.false
+    ∙ ap (λ (b : Bool). b && is_reached inside.rows (roots (leases_of inside.kept.items)) d) (sym (sym c.has.ensures.has ∙ c.if-has.false))
+    ∙ ap (λ (t : Table). is_guarded t d) c.self.view_is

@@ -1,21 +1,17 @@
-use Rattle.std.proofs.Common.{length, not, subst, ap, arith, ℕ}
+use Rattle.std.proofs.Common.{◌≡◌, ◌∙◌, List, false, not, sym, ap, subst}
 use Rattle.store_core.specs.Reach.{Linked}
-use Rattle.lease_table.specs.Table.{is_blob, sizes}
-use Rattle.lease_table.specs.Guarding.{HasLen}
-use Rattle.lease_table.proofs.GuardLaws.{marks_len}
-use Rattle.lease_table.proofs.TableLaws.{fewer, smaller}
+use Rattle.store_core.proofs.Same.{equal_from_same}
+use Rattle.lease_table.specs.Table.{Table, is_blob, is_guarded}
+use Rattle.lease_table.specs.LeaseReaches.{IsKept}
+use Rattle.lease_table.proofs.KeptLaws.{table_of, kept_without, not_by}
 use Rattle.lease_table.proofs.table.LeaseTable.on_remove.Goals as goal
 
-pub renew-requires-clause-len : goal.renew-requires-clause-len
-renew-requires-clause-len c =
+pub invariant_of-self : goal.invariant_of-self
+invariant_of-self c =
     let inside = c.self.inside in
-    let before = marks_len inside.rows inside.holds.items inside.guards c.self.invariant in
-    let left = fewer (λ (row : Linked). not (is_blob c.args.digest.now row)) inside.rows in
-    let is = ap length c.remove_one.ensures in
-    subst (λ (n : ℕ). HasLen n c.truncate.new.self) c.len.ensures.len (c.truncate.ensures (length inside.rows) before (omega (arith, c.len.ensures.len)))
-
-pub renew-requires-clause-small : goal.renew-requires-clause-small
-renew-requires-clause-small c =
-    let left = smaller (λ (row : Linked). not (is_blob c.args.digest.now row)) c.self.inside.rows in
-    let is = ap sizes c.remove_one.ensures in
-    omega (arith, c.self.invariant.small)
+    let d = c.args.digest.now in
+    let loose : is_guarded (table_of inside.rows inside.kept.items) d ≡ false = ap (λ (t : Table). is_guarded t d) c.self.view_is ∙ c.requires in
+    subst (λ (rows : List Linked). IsKept rows inside.kept.items inside.tally.counts.entries inside.tally.bytes) (sym c.remove_one.ensures)
+    (kept_without inside.rows (λ row. not (is_blob d row)) inside.kept.items inside.tally.counts.entries inside.tally.bytes
+    (λ row there gone. ap (is_guarded (table_of inside.rows inside.kept.items)) (equal_from_same row.digest d (not_by (is_blob d row) gone)) ∙ loose)
+    c.self.invariant)

@@ -1,0 +1,10 @@
+use Rattle.std.proofs.Common.{◌+◌, ◌-◌, ◌≤◌, ◌^◌, ℕ, take}
+use Rattle.digest_types.specs.Name.{HashAndSize}
+use Rattle.lease_table.specs.Table.{sizes}
+use Rattle.lease_table.specs.Tallies.{touch, IsTallied}
+use Rattle.lease_table.proofs.lease_reach.uncount_pairs.Given as goal
+
+abbrev pub invariant-pairs : goal.invariant-pairs
+invariant-pairs l = (f : HashAndSize → ℕ) → sizes l.rows ≤ 2 ^ 62
+    → IsTallied l.rows (λ d. f d + touch (take l.reach.len l.reach.pairs) d) l.fn.tally.counts.entries l.fn.tally.bytes
+    → IsTallied l.rows (λ d. f d + touch (take (l.len - l.done) l.reach.pairs) d) l.tally.counts.entries l.tally.bytes
