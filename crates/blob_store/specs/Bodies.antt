@@ -73,7 +73,7 @@ HasRead s read = HasTaken s.hasher s.told read
 abbrev pub ReadsOn : ReadingState → ReadingState → List ℕ → Type 0
 ReadsOn old new piece = (read : List ℕ) → HasRead old read → HasRead new (read ++ piece)
 
--- a front of these bytes was read
+-- a prefix of these bytes was read
 abbrev pub ReadsPart : ReadingState → ReadingState → List ℕ → Type 0
 ReadsPart old new bytes = (n : ℕ) × (n ≤ length bytes) × ReadsOn old new (take n bytes)
 

@@ -11,7 +11,7 @@ use Rattle.blob_store.specs.declared.door.PutReply.TheVariants as puts
 abbrev pub ring_mark : State → ℕ
 ring_mark s = s.low + (s.high - s.low) / 2
 
--- whether a put stored a blob, with more than so many bytes in the store then
+-- whether a put stored a blob, and more bytes than the mark are in the store then
 abbrev pub is_over : ℕ → PutReply → Bool
 is_over mark (puts.Stored removed used) = nat_lt mark used
 is_over mark puts.Present = false

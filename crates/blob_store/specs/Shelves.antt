@@ -32,12 +32,12 @@ Fails old new = (old.may_fail ≡ true) × Rose old.faults new.faults
 abbrev pub HasShelfCause : {T : Type 0} → Shelved → Shelved → Result T ShelfEnd → Type 0
 HasShelfCause old new result = IsErrOf result Failed → Fails old new
 
--- so many more are counted, up to 2^64 - 1
+-- this many more are counted, up to 2^64 - 1
 abbrev pub counting : ℕ → ℕ → ℕ
 counting zero n = n
 counting (suc more) n = min (n + suc more) (2 ^ 64 - 1)
 
--- so many bodies were given up, and all else stays
+-- this many bodies were given up, and all else stays
 abbrev pub discarding : ℕ → Shelved → Shelved
 discarding count s = record s { discarded = counting count s.discarded }
 
@@ -50,7 +50,7 @@ abbrev pub appended : Option (List ℕ) → List ℕ → Option (List ℕ)
 appended None bytes = None
 appended (Some old) bytes = Some (old ++ bytes)
 
--- a front of the bytes was appended
+-- a prefix of the bytes was appended
 abbrev pub HasPart : Option (List ℕ) → Option (List ℕ) → List ℕ → Type 0
 HasPart old new bytes = (n : ℕ) × (n ≤ length bytes) × (new ≡ appended old (take n bytes))
 

@@ -8,7 +8,7 @@ use Rattle.blob_store.specs.Bodies.{HasTaken, limit_of}
 use Rattle.blob_store.specs.declared.reading.ReadingEnd.{ReadingEnd}
 use Rattle.blob_store.specs.declared.reading.ReadingEnd.TheVariants.{Failed, Damaged}
 
--- so many bytes were taken, and not more than the limit
+-- this many bytes were taken, and not more than the limit
 pub record IsPlace (want : HashAndSize) (hasher : Hasher) (told : Option (List ℕ)) (at : ℕ) : Type 0 where
   pub read : List ℕ
   pub taken : HasTaken hasher told read
@@ -24,6 +24,6 @@ IsOther wanted hasher (Damaged want got) = (want ≡ wanted) × (got ≢ want) �
 abbrev pub TakesPiece : Hasher → Hasher → Option (List ℕ) → List ℕ → Type 0
 TakesPiece old new told piece = (read : List ℕ) → HasTaken old told read → HasTaken new told (read ++ piece)
 
--- a front of these bytes was taken
+-- a prefix of these bytes was taken
 abbrev pub TakesPart : Hasher → Hasher → Option (List ℕ) → List ℕ → Type 0
 TakesPart old new told bytes = (n : ℕ) × (n ≤ length bytes) × TakesPiece old new told (take n bytes)

@@ -167,7 +167,7 @@ impl<'a, K: Shelf, R: Wait, G: Gate + Drop> LockDoor<'a, K, R, G> {
     }
 }
 
-// Rings once where a put stored a blob, with more than so many bytes in the store then.
+// Rings once if a put stored a blob and more bytes than the mark are in the store then.
 fn ring_if_over<G: Gate>(gate: &mut G, mark: u64, answer: &PutReply)
     requires { G.rings gate.old < 2 ^ 63 }
     ensures { G.rings gate.new ≡ G.rings gate.old + rings_for mark answer.now }

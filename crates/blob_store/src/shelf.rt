@@ -101,7 +101,7 @@ pub trait Shelf {
     fn drop_draft(&mut self, draft: Self::Draft)
         ensures { shelved self.new ≡ dropping (shelved self.old) };
 
-    /// The next of the bodies that stood there when the shelf was made, each once, or None where there is none left.
+    /// The next of the bodies that stood there when the shelf was made, each once, or `None` when no more are left.
     fn next_found(&mut self) -> Result<Option<Self::Body>, ShelfEnd>
         ensures found { IfOk result (λ o. IfSome o (λ b. Finds (shelved self.old) (shelved self.new) (kept b))) }
         ensures none { IfOk result (λ o. IfNone o (FindsNone (shelved self.old) (shelved self.new))) }

@@ -32,8 +32,9 @@ use turn_lock::Stands;
 /// The store: its rows and leases over hashed indexes, and a body on the shelf for each row.
 #[derive(Drop)]
 pub struct Store<K: Shelf> {
-    core: IndexedCore,
-    bodies: Bodies<K>,
+    // They are on the heap, so that a turn of a lock moves no more than where they are.
+    core: Box<IndexedCore>,
+    bodies: Box<Bodies<K>>,
 }
 
 impl<K: Shelf> Model for Store<K> {
@@ -42,9 +43,9 @@ impl<K: Shelf> Model for Store<K> {
 
     ghost Value = { State };
 
-    ghost view = { λ s. s.core };
+    ghost view = { λ s. s.core.value };
 
-    ghost invariant = { λ s. AreBodiesOf s.core.rows s.bodies };
+    ghost invariant = { λ s. AreBodiesOf s.core.value.rows s.bodies.value };
 }
 
 impl<K: Shelf> Stands for Store<K> {
@@ -57,8 +58,8 @@ impl<K: Shelf> Store<K> {
         ensures { IfOk result (λ s. s ≡ new_state marks.low marks.high) }
     {
         Ok(Store {
-            core: IndexedCore::new(alloc, marks),
-            bodies: Bodies::new(alloc),
+            core: Box::new(alloc, IndexedCore::new(alloc, marks))?,
+            bodies: Box::new(alloc, Bodies::new(alloc))?,
         })
     }
 

@@ -6,7 +6,8 @@ use Rattle.std.proofs.lemmas.Bool.{cases_Bool, and_parts}
 use Rattle.hex.specs.Hex.{encode_lower, encode_with}
 use Rattle.digest_types.specs.Hex.{unhex_of, is_lower_digit}
 use Rattle.casd_server.specs.Cut.{NoByte, pieces_of, cut_at}
-use Rattle.casd_server.specs.Record.{AreBytes, message_text, messages_text, message_of, both_of, each_of, messages_of}
+use Rattle.proto_wire.specs.Reading.{IsBytes}
+use Rattle.casd_server.specs.Record.{message_text, messages_text, message_of, both_of, each_of, messages_of}
 use Rattle.casd_server.proofs.CutLemmas.{pieces_of-one, pieces_of-first, pieces_of-none, pieces_of-some, join-pieces_of}
 use Rattle.digest_types.proofs.HexText.{encode_lower-digits, unhex_of-again, unhex_of-found}
 
@@ -22,7 +23,7 @@ unfolding encode_with
 message_text-hex text [] b bs is e = absurd cc
 message_text-hex text (d ∷ ds) b bs is e = e
 
-pub message_of-found : (text m : List ℕ) → message_of text ≡ Some m → AreBytes m × (message_text m ≡ text)
+pub message_of-found : (text m : List ℕ) → message_of text ≡ Some m → IsBytes m × (message_text m ≡ text)
 unfolding message_of
 message_of-found [] m e = absurd cc
 message_of-found (b ∷ bs) m e =
@@ -40,7 +41,7 @@ message_of-found (b ∷ bs) m e =
 not_dot : (a b : ℕ) (rest : List ℕ) → pointwise eqb (a ∷ b ∷ rest) (codes ".") ≡ false
 not_dot a b rest = grind (arith)
 
-pub message_of-again : (m : List ℕ) → AreBytes m → message_of (message_text m) ≡ Some m
+pub message_of-again : (m : List ℕ) → IsBytes m → message_of (message_text m) ≡ Some m
 unfolding message_of encode_with
 message_of-again [] bytes = refl
 message_of-again (b ∷ bs) bytes = rw (not_dot (slice_index (codes "0123456789abcdef") (b / 16)) (slice_index (codes "0123456789abcdef") (b % 16)) (encode_lower bs)) (unhex_of-again (b ∷ bs) bytes)
@@ -55,7 +56,7 @@ digits_no_comma (b ∷ bs) lower =
     (lower_no_comma b parts.0, digits_no_comma bs parts.1)
 
 -- no message's text has a comma
-pub message_text-no_comma : (m : List ℕ) → AreBytes m → NoByte 44 (message_text m)
+pub message_text-no_comma : (m : List ℕ) → IsBytes m → NoByte 44 (message_text m)
 message_text-no_comma [] bytes = ((λ e. omega arith), tt)
 message_text-no_comma (b ∷ bs) bytes = digits_no_comma (encode_lower (b ∷ bs)) (encode_lower-digits (b ∷ bs) bytes)
 
@@ -67,7 +68,7 @@ both_found None others ms e = absurd cc
 both_found (Some m) None ms e = absurd cc
 both_found (Some m) (Some rest) ms e = (m, (rest, refl, refl, cc))
 
-each_of-found : (pieces ms : List (List ℕ)) → each_of pieces ≡ Some ms → AllByRecursion AreBytes ms × (map message_text ms ≡ pieces)
+each_of-found : (pieces ms : List (List ℕ)) → each_of pieces ≡ Some ms → AllByRecursion IsBytes ms × (map message_text ms ≡ pieces)
 unfolding each_of
 each_of-found [] ms e =
     let same : [] ≡ ms = cc in
@@ -78,7 +79,7 @@ each_of-found (piece ∷ pieces) ms e =
     let ih = each_of-found pieces parts.1.0 parts.1.2 in
     rw (← parts.1.3) ((first.0, ih.0), rw (first.1, ih.1) refl)
 
-each_of-again : (ms : List (List ℕ)) → AllByRecursion AreBytes ms → each_of (map message_text ms) ≡ Some ms
+each_of-again : (ms : List (List ℕ)) → AllByRecursion IsBytes ms → each_of (map message_text ms) ≡ Some ms
 unfolding each_of
 each_of-again [] bytes = refl
 each_of-again (m ∷ ms) bytes = rw (message_of-again m bytes.0, each_of-again ms bytes.1) refl
@@ -91,7 +92,7 @@ messages_text-pieces : (ms : List (List ℕ)) (text : List ℕ) → map message_
 messages_text-pieces [] text e = absurd (some_pieces 44 text (cut_at 44 text) refl (sym e))
 messages_text-pieces (m ∷ ms) text e = ap (join_with_byte 44) e ∙ join-pieces_of 44 text
 
-pub messages_of-found : (text : List ℕ) (ms : List (List ℕ)) → messages_of text ≡ Some ms → AllByRecursion AreBytes ms × (messages_text ms ≡ text)
+pub messages_of-found : (text : List ℕ) (ms : List (List ℕ)) → messages_of text ≡ Some ms → AllByRecursion IsBytes ms × (messages_text ms ≡ text)
 unfolding messages_of
 messages_of-found text ms e =
     elim (chosen (pointwise eqb text (codes "-")) (Some []) (each_of (pieces_of 44 text)) (Some ms) e) [
@@ -109,12 +110,12 @@ pieces_of-join : (c : ℕ) (p : List ℕ) (ps : List (List ℕ)) → AllByRecurs
 pieces_of-join c p [] none = pieces_of-one c p none.0
 pieces_of-join c p (q ∷ qs) none = pieces_of-first c p (join_with_byte c (q ∷ qs)) none.0 ∙ ap (λ (rest : List (List ℕ)). p ∷ rest) (pieces_of-join c q qs none.1)
 
-no_commas : (ms : List (List ℕ)) → AllByRecursion AreBytes ms → AllByRecursion (NoByte 44) (map message_text ms)
+no_commas : (ms : List (List ℕ)) → AllByRecursion IsBytes ms → AllByRecursion (NoByte 44) (map message_text ms)
 no_commas [] bytes = tt
 no_commas (m ∷ ms) bytes = (message_text-no_comma m bytes.0, no_commas ms bytes.1)
 
 -- messages are not written as a dash
-no_dash : (m : List ℕ) (ms : List (List ℕ)) → AllByRecursion AreBytes (m ∷ ms) → messages_text (m ∷ ms) ≡ codes "-" → ⊥
+no_dash : (m : List ℕ) (ms : List (List ℕ)) → AllByRecursion IsBytes (m ∷ ms) → messages_text (m ∷ ms) ≡ codes "-" → ⊥
 unfolding message_of unhex_of
 no_dash m ms bytes e =
     let pieces : codes "-" ∷ [] ≡ map message_text (m ∷ ms) = sym (pieces_of-one 44 (codes "-") ((λ e. omega arith), tt)) ∙ ap (pieces_of 44) (sym e) ∙ pieces_of-join 44 (message_text m) (map message_text ms) (no_commas (m ∷ ms) bytes) in
@@ -129,7 +130,7 @@ dash_test text other =
       | inr differ ↦ differ
     ]
 
-pub messages_of-again : (ms : List (List ℕ)) → AllByRecursion AreBytes ms → messages_of (messages_text ms) ≡ Some ms
+pub messages_of-again : (ms : List (List ℕ)) → AllByRecursion IsBytes ms → messages_of (messages_text ms) ≡ Some ms
 unfolding messages_of
 messages_of-again [] bytes = refl
 messages_of-again (m ∷ ms) bytes =

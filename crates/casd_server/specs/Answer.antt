@@ -60,7 +60,7 @@ closed_below (suc seat) s = closed_with (closed_below seat s) seat (owner_at (cl
 abbrev pub with_core : Seated → Result (List ℕ) Status × State → Answer × Seated
 with_core s called = (answers.Call called.0, record s { core = called.1 })
 
--- The answer for the reply to a pass, to a question for the numbers, or to a close. Other replies are none to these.
+-- The answer for the reply to a pass, to a question for the numbers, or to a close. Other replies never answer these.
 unfoldable pub answer_of : Reply → Answer
 answer_of (replies.Passed removed used) = answers.Passed removed used
 answer_of (replies.Used usage) = answers.Used usage

@@ -38,7 +38,7 @@ item_of v = record { digest = v.0; bytes = v.1.0; compressor = v.1.1.0 }
 abbrev pub update_of : Value batch_update_blobs_request → Update
 update_of v = record { items = map item_of v.1.0; digest_function = v.1.1.0 }
 
--- a request without where its list lies in memory
+-- what the call takes of a request that was read
 abbrev pub update_view : BatchUpdateBlobsRequest → Update
 update_view r = record { items = r.requests; digest_function = r.digest_function }
 
@@ -84,7 +84,7 @@ mismatch want got = record {
 abbrev pub fine : Status
 fine = record { code = code.Ok; text = [] }
 
--- The status of an item by the reply to its put. The other replies are none to a put of an open owner.
+-- The status of an item by the reply to its put. The other replies never answer a put of an open owner.
 unfoldable pub put_status : Reply → Status
 put_status (replies.Stored removed used) = fine
 put_status replies.Present = fine

@@ -4,6 +4,7 @@ use Rattle.std.specs.List.{AllByRecursion, join_with_byte}
 use Rattle.std.specs.Cmp.Lexicographic.{pointwise}
 use Rattle.std.specs.Fmt.{decimal}
 use Rattle.hex.specs.Hex.{encode_lower}
+use Rattle.proto_wire.specs.Reading.{IsBytes}
 use Rattle.digest_types.specs.Hex.{unhex_of}
 use Rattle.casd_server.specs.declared.word.Word.{Word}
 use Rattle.casd_server.specs.declared.record_line.Record.{Record}
@@ -37,15 +38,11 @@ messages_text (m ∷ ms) = join_with_byte 44 (map message_text (m ∷ ms))
 abbrev pub line_of : Asked → List ℕ
 line_of r = decimal r.seat ++ (32 ∷ name_of r.word ++ (32 ∷ messages_text r.messages))
 
--- each element is a byte
-abbrev pub AreBytes : List ℕ → Type 0
-AreBytes bytes = (i : ℕ) → slice_index bytes i < 256
-
 -- what is a record: a seat below 100, with a word that it may have, and messages of bytes
 pub record IsRecord (r : Asked) : Type 0 where
   pub seat : r.seat < 100
   pub word : takes r.seat r.word (length r.messages) ≡ true
-  pub bytes : AllByRecursion AreBytes r.messages
+  pub bytes : AllByRecursion IsBytes r.messages
 
 -- whether this is a decimal digit
 abbrev pub is_digit_byte : ℕ → Bool
@@ -96,6 +93,6 @@ abbrev pub parts_of : Option (List ℕ × List ℕ) → Option Asked
 parts_of None = None
 parts_of (Some c) = parts_behind (seat_of c.0) (cut_at 32 c.1)
 
--- The record of a line, or none where the line is malformed.
+-- The record of a line, or `None` if the line is malformed.
 unfoldable pub record_of : List ℕ → Option Asked
 record_of line = if nat_lt max_line (length line) then None else parts_of (cut_at 32 line)

@@ -8,6 +8,7 @@ ghost use Rattle.casd_server.specs.declared.input.Stop.TheVariants.{ReadFault as
 
 use crate::parse::MAX_LINE;
 use casd_base::{Failed, Source};
+use proto_wire::drop_front;
 use std::alloc::{AllocError, Global};
 use std::marker::Model;
 
@@ -76,15 +77,6 @@ fn newline_in(bytes: &[u8]) -> Option<usize>
     ensures { result ≡ position (λ b. b == 10) bytes.now }
 {
     bytes.iter().position(|b| *b == b'\n')
-}
-
-fn drop_front(bytes: &mut Vec<u8>, count: usize)
-    requires { count ≤ vec_len bytes.old }
-    ensures { bytes.new.items ≡ drop count bytes.old.items }
-{
-    let len = bytes.len();
-    bytes.rotate_left(count);
-    bytes.truncate(len - count);
 }
 
 /// Reads one block, and adds it to the buffer.

@@ -29,7 +29,7 @@ pub(crate) fn look<K: Shelf>(bench: &Bench<K>)
     bench.left();
 }
 
-/// Chooses a seat, to which an owner comes if there is none. Where no turn is left it ends as without memory.
+/// Chooses a seat, and opens an owner for it if it has none. If no turn is left it ends as without memory.
 pub(crate) fn sit<K: Shelf>(bench: &mut Bench<K>, seat: usize) -> Result<(), OutOfMemory>
     requires seat { seat < length bench.old.seats }
     requires few { length bench.old.seen ≤ 2 ^ 62 }

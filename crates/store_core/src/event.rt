@@ -64,7 +64,7 @@ impl Event {
 pub enum Reply {
     /// The owner has this number.
     Opened { owner: u64 },
-    /// The blob has a row now. So many rows were removed for it, and so many bytes are used.
+    /// The blob has a row now. `removed` rows went for it, and `used` bytes are used.
     Stored { removed: u64, used: u64 },
     /// The blob was there.
     Present,
@@ -86,7 +86,7 @@ pub enum Reply {
     Released,
     /// The row is unsound, if there is one.
     Marked,
-    /// So many rows were removed, and so many bytes are used.
+    /// `removed` rows went, and `used` bytes are used.
     Passed { removed: u64, used: u64 },
     /// The numbers of the store.
     Used { usage: Usage },
@@ -103,7 +103,7 @@ pub enum Standing {
     Complete { digests: Digests },
     /// Of the blobs that count these aren't there or are unsound, ascending.
     Wants { digests: Digests },
-    /// This blob is reached as a Directory, and its bytes are none.
+    /// This blob is reached as a Directory, and its bytes are not those of a Directory.
     NotDirectory { digest: Digest },
     /// It reaches more than 1,000,000 pairs of a kind and a digest besides the root's.
     TooMany,

@@ -102,7 +102,7 @@ impl Rest {
         0
     }
 
-    /// Wakes those that sleep, and takes the mark away. It makes no system call where there is none.
+    /// Wakes those that sleep, and takes the mark away. It makes no system call if nobody sleeps.
     pub(crate) fn wake(&self) {
         if self.state.load(Ordering::SeqCst) == AWAITED {
             self.state.store(FREE, Ordering::SeqCst);

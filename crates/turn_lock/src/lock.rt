@@ -70,7 +70,7 @@ fn author_of(owner: Option<u64>, event: &Event, reply: &Reply) -> Option<u64>
 }
 
 impl<S: Stands> TurnLock<S> {
-    /// A new seat, to which another gives so many of its turns. It has seen what that one has seen.
+    /// A new seat, to which another gives `turns` of its turns. It has seen what that one has seen.
     pub fn seat(&self, from: &mut Seat<S>, turns: u64) -> Seat<S>
         requires lock { from.old.lock ≡ self.now }
         requires idle { IsIdle from.old }

@@ -7,7 +7,7 @@ ghost use Rattle.turn_lock.specs.Views.{IsOwn};
 use crate::kinds::TableSeat;
 use std::marker::Model;
 
-/// A seat at a lock: the right to take so many turns. It knows a beginning of the history of all seats.
+/// A seat at a lock: the right to take a number of turns. It knows a beginning of the history of all seats.
 #[derive(Drop)]
 pub struct Seat<S> {
     pub(crate) raw: TableSeat<S>,

@@ -15,14 +15,14 @@ rows-init g c = record { core = removed_none _; shelf = refl }
 
 pub remove_first-requires : goal.remove_first-requires
 remove_first-requires g c =
-    let distinct = subst (λ (s : State). Distinct s.rows) c.self.view_is c.to_go-removed.ensures.distinct in
-    let within = subst (λ (s : State). c.to_go-removed.result ≤ length (unguarded s)) c.self.view_is c.to_go-removed.ensures.within in
+    let distinct = subst (λ (s : State). Distinct s.rows) (c.deref-2.ensures ∙ c.self.view_is) c.to_go-removed.ensures.distinct in
+    let within = subst (λ (s : State). c.to_go-removed.result ≤ length (unguarded s)) (c.deref-2.ensures ∙ c.self.view_is) c.to_go-removed.ensures.within in
     (c.args.self.now, c.rows.counter, distinct, c.rows.invariant.core, omega (arith, within, c.rows-test.true))
 
 pub rows-preserved : goal.rows-preserved
 rows-preserved g c =
-    let distinct = subst (λ (s : State). Distinct s.rows) c.self.view_is c.to_go-removed.ensures.distinct in
-    let within = subst (λ (s : State). c.to_go-removed.result ≤ length (unguarded s)) c.self.view_is c.to_go-removed.ensures.within in
+    let distinct = subst (λ (s : State). Distinct s.rows) (c.deref-2.ensures ∙ c.self.view_is) c.to_go-removed.ensures.distinct in
+    let within = subst (λ (s : State). c.to_go-removed.result ≤ length (unguarded s)) (c.deref-2.ensures ∙ c.self.view_is) c.to_go-removed.ensures.within in
     record {
       core = c.remove_first.ensures.next c.args.self.now c.rows.counter distinct c.rows.invariant.core (omega (arith, within, c.rows-test.true));
       shelf = one_more c.rows.counter (g.K.Shelf.shelved c.rows.shelf) (g.K.Shelf.shelved c.remove_first.new.shelf) (g.K.Shelf.shelved c.args.shelf.now) c.remove_first.ensures.shelf c.rows.invariant.shelf;
@@ -32,9 +32,9 @@ pub returns-clause-step : goal.returns-clause-step
 returns-clause-step g c =
     let n = c.to_go-removed.result in
     let all : c.rows.counter ≡ n = omega (arith, c.rows-test.false, c.rows.auto.counter-end) in
-    let opened = ap (λ (s : State). is_open s c.args.owner) (sym c.self.view_is) ∙ sym c.is_open.ensures ∙ c.if-not-is_open.false in
-    let is = subst (λ (s : State). passed s ≡ (replies.Passed n (used (removed s n)), removed s n)) c.self.view_is c.to_go-removed.ensures.pass in
-    pass_step c.args.self.now c.rows.self c.args.owner n c.used.result opened is (c.rows.invariant.core ∙ ap (removed c.args.self.now) all) (c.used.ensures ∙ ap used c.self-2.view_is)
+    let opened = ap (λ (s : State). is_open s c.args.owner) (sym (c.deref.ensures ∙ c.self.view_is)) ∙ sym c.is_open.ensures ∙ c.if-not-is_open.false in
+    let is = subst (λ (s : State). passed s ≡ (replies.Passed n (used (removed s n)), removed s n)) (c.deref-2.ensures ∙ c.self.view_is) c.to_go-removed.ensures.pass in
+    pass_step c.args.self.now c.rows.self c.args.owner n c.used.result opened is (c.rows.invariant.core ∙ ap (removed c.args.self.now) all) (c.used.ensures ∙ ap used (c.deref-3.ensures ∙ c.self-2.view_is))
 
 pub returns-clause-shelf : goal.returns-clause-shelf
 unfolding passed_gives_up
