@@ -2,9 +2,7 @@
 //! times. `bench/leases` times it.
 #![tactic(auto)]
 
-ghost use Rattle.std.specs.Prelude.{◌≡◌, ◌≤◌};
-ghost use Rattle.std.specs.List.{list_any};
-ghost use Rattle.store_core.specs.State.{is_among};
+ghost use Rattle.std.specs.Prelude.{◌≡◌, ◌≤◌, []};
 ghost use Rattle.lease_table.specs.Table.{sizes};
 
 use digest_types::{Digest, Digests};
@@ -62,13 +60,6 @@ fn edges(alloc: Global, first: u32, row: u32) -> Option<Edges> {
     Some(edges)
 }
 
-/// Whether a digest is among these.
-fn is_one_of(digests: &[Digest], digest: &Digest) -> bool
-    ensures { result ≡ is_among digests.now digest.now }
-{
-    digests.iter().any(|other| digest == other)
-}
-
 /// The table, the order of use, and how many bytes were put in all.
 #[derive(Drop)]
 struct Kept {
@@ -78,17 +69,16 @@ struct Kept {
     ghost total: { sizes table.blobs ≤ bytes },
 }
 
-/// Puts a row into the table, and removes those of `gone`.
+/// Puts a row into the table.
 #[tactic(auto, using(lease_table::proofs::TableLaws::smaller))]
-fn add_row(kept: &mut Kept, digest: &Digest, edges: Option<&Edges>, gone: &Digests) -> Option<()> {
+fn add_row(kept: &mut Kept, digest: &Digest, edges: Option<&Edges>, none: &Digests) -> Option<()>
+    requires { none.now ≡ [] }
+{
     let size = digest.size;
-    if kept.bytes >= MOST || size >= MOST {
+    if kept.bytes >= MOST || size >= MOST || kept.table.has_row(digest) {
         return None;
     }
-    if kept.table.has_row(digest) || is_one_of(gone.as_slice(), digest) {
-        return None;
-    }
-    match kept.table.on_put(digest, edges, gone) {
+    match kept.table.on_put(digest, edges, none) {
         Ok(()) => {
             kept.bytes += size;
             Some(())
@@ -97,21 +87,13 @@ fn add_row(kept: &mut Kept, digest: &Digest, edges: Option<&Edges>, gone: &Diges
     }
 }
 
-/// Puts a row into the order of use, and removes those of `gone`.
-fn add_use(order: &mut UseOrder, digest: &Digest, gone: &Digests) -> Option<()> {
-    for other in gone.as_slice() {
-        order.remove(other);
-    }
-    if order.has(digest) {
+/// Puts a row into the table and the order of use.
+fn put(alloc: Global, kept: &mut Kept, digest: &Digest, edges: Option<&Edges>) -> Option<()> {
+    add_row(kept, digest, edges, &Digests::new(alloc))?;
+    if kept.order.has(digest) {
         return None;
     }
-    order.add(*digest).ok()
-}
-
-/// Puts a row, and removes those of `gone`.
-fn put(kept: &mut Kept, digest: &Digest, edges: Option<&Edges>, gone: &Digests) -> Option<()> {
-    add_row(kept, digest, edges, gone)?;
-    add_use(&mut kept.order, digest, gone)
+    kept.order.add(*digest).ok()
 }
 
 /// Takes a lease on a tree, by the number of its root.
@@ -121,7 +103,6 @@ fn take_lease(kept: &mut Kept, id: u64, root: u32) -> Option<()> {
 
 /// A table of all trees with their leases, and of rows in no tree.
 fn filled(alloc: Global) -> Option<Kept> {
-    let none = Digests::new(alloc);
     let mut kept = Kept {
         table: LeaseTable::new(alloc),
         order: UseOrder::new(alloc),
@@ -132,12 +113,12 @@ fn filled(alloc: Global) -> Option<Kept> {
         for row in 0..ROWS {
             let edges = edges(alloc, first, row);
             let number = first.saturating_add(row);
-            put(&mut kept, &digest(number), edges.as_ref(), &none)?;
+            put(alloc, &mut kept, &digest(number), edges.as_ref())?;
         }
     }
     for row in 0..ROWS {
         let number = TREES.saturating_mul(ROWS).saturating_add(row);
-        put(&mut kept, &digest(number), None, &none)?;
+        put(alloc, &mut kept, &digest(number), None)?;
     }
     for lease in 0..LEASES {
         let root = (lease % TREES).saturating_mul(ROWS);
@@ -146,9 +127,9 @@ fn filled(alloc: Global) -> Option<Kept> {
     Some(kept)
 }
 
-/// A row is put, and nothing goes.
+/// A row is put.
 fn put_one(alloc: Global, kept: &mut Kept, number: u32) -> Option<()> {
-    put(kept, &digest(number), None, &Digests::new(alloc))
+    put(alloc, kept, &digest(number), None)
 }
 
 /// A lease on a tree is taken and released.
@@ -159,17 +140,16 @@ fn lease_one(kept: &mut Kept, number: u32) -> Option<()> {
     Some(())
 }
 
-/// A row is put, and the least recently used one goes for it.
-fn pass_one(kept: &mut Kept, number: u32) -> Option<()> {
-    let used = kept.order.len() as u64;
-    let count = kept
-        .order
-        .victims(&kept.table, used, used.saturating_sub(1));
-    let gone = kept.order.gone(&kept.table, count).ok()?;
-    put(kept, &digest(number), None, &gone)
+/// The least recently used row is used again.
+fn touch_one(kept: &mut Kept) -> Option<()> {
+    let digest = kept.order.first_unguarded(&kept.table)?;
+    if kept.order.has(&digest) {
+        kept.order.touch(&digest);
+    }
+    Some(())
 }
 
-/// How many rows there are in the end, by the words: put, lease or pass, and how many times.
+/// How many rows there are in the end, by the words: put, lease or touch, and how many times.
 fn run(rt: &HostRuntime) -> Option<u64> {
     let alloc = rt.alloc();
     let mut words = env::args(rt).ok()?;
@@ -182,7 +162,7 @@ fn run(rt: &HostRuntime) -> Option<u64> {
         match kind.as_str() {
             "put" => put_one(alloc, &mut kept, number)?,
             "lease" => lease_one(&mut kept, number)?,
-            "pass" => pass_one(&mut kept, number)?,
+            "touch" => touch_one(&mut kept)?,
             _ => return None,
         }
     }

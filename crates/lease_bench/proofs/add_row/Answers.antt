@@ -10,7 +10,7 @@ use Rattle.lease_bench.proofs.add_row.Goals as goal
 
 pub invariant_of-kept : goal.invariant_of-kept
 invariant_of-kept c =
-    let gone = c.args.gone.now in
+    let gone = c.args.none.now in
     let old = c.args.kept.now.table.blobs in
     let row : Linked = record { digest = c.args.digest.now; edges = option_copied c.args.edges } in
     let is = ap (λ (t : Table). sizes t.blobs) c.in-Ok.ensures.ok in
