@@ -1,0 +1,5 @@
+pub mod BlockSizes
+pub mod RowLaws
+pub mod PartLaws
+pub mod SaidLaws
+pub mod HeardLaws

@@ -1,0 +1,5 @@
+use Rattle.h2_session.proofs.PartLaws.{pays_settles}
+use Rattle.h2_session.proofs.machine.Machine.on_frame.Goals as goal
+
+pub returns-clause-settles : goal.returns-clause-settles
+returns-clause-settles c = pays_settles _ _ _ _ _ _ c.in_ok-event.ensures.pays c.in_ok-pump.ensures.settles

@@ -1,0 +1,12 @@
+pub mod Codes
+pub mod Part
+pub mod Requests
+pub mod Windows
+pub mod Rows
+pub mod Faults
+pub mod Heard
+pub mod Said
+pub mod Sent
+pub mod Turns
+pub mod Machine
+pub mod Session
