@@ -10,6 +10,3 @@ mod machine;
 mod standing;
 
 pub use machine::IndexedCore;
-
-#[cfg(test)]
-mod tests;
