@@ -85,14 +85,6 @@ pub(crate) fn set_answered(streams: &mut Vec<Stream>, i: usize, end: bool)
     }
 }
 
-/// Another state of what is sent.
-pub(crate) fn set_sending(streams: &mut Vec<Stream>, i: usize, sending: Sending)
-    requires { i < length streams.old.items }
-    ensures { IfSome (slice_get streams.old.items i) (λ s. streams.new.items ≡ slice_set streams.old.items i (record s { sending = sending })) }
-{
-    streams[i].sending = sending;
-}
-
 /// What is left after DATA of a stream.
 pub(crate) fn advance(streams: &mut Vec<Stream>, i: usize, initial: u32, size: usize, end: bool)
     requires place { i < length streams.old.items }

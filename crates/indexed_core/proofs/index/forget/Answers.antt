@@ -1,4 +1,4 @@
-use Rattle.std.proofs.Common.{◌∙◌, List, filter, not, refl, sym, ap, subst, arith}
+use Rattle.std.proofs.Common.{◌∙◌, List, not, refl, sym, ap, subst, arith}
 use Rattle.digest_types.specs.Name.{HashAndSize}
 use Rattle.store_core.specs.State.{same, is_among}
 use Rattle.lease_table.proofs.PairSetLaws.{take_all}

@@ -1,5 +1,4 @@
 use Rattle.std.proofs.Common.{◌≡◌, Bool, Option, None, true, false, not, cond, refl, ap, ◌∙◌}
-use Rattle.digest_types.specs.Name.{HashAndSize}
 use Rattle.store_core.specs.State.{same}
 use Rattle.store_core.proofs.Guarding.{same_swap}
 use Rattle.indexed_core.specs.Joined.{told, kept_flags}

@@ -3,7 +3,6 @@ use Rattle.indexed_core.specs.Parts.{is_held}
 use Rattle.indexed_core.proofs.ReachedRows.{rows_held, not_both}
 use Rattle.std.proofs.Common.{◌≡◌, ◌+◌, ◌≤◌, ◌^◌, ◌∙◌, [], ◌∷◌, ◌++◌, List, filter, not, sym, ap, subst, refl, arith}
 use Rattle.std.specs.Option.{option_copied}
-use Rattle.std.specs.List.{list_any}
 use Rattle.digest_types.specs.Name.{HashAndSize}
 use Rattle.store_core.specs.declared.state.Row.{Row}
 use Rattle.store_core.specs.State.{same, is_among, sizes}
@@ -11,7 +10,7 @@ use Rattle.store_core.specs.Pass.{without}
 use Rattle.store_core.proofs.Changes.{new_row}
 use Rattle.lease_table.specs.Table.{Table, DistinctDigests, other_digests}
 use Rattle.lease_table.proofs.OrderLaws.{apart, distinct_more}
-use Rattle.indexed_core.specs.Joined.{told, Soundness, with_flag, kept_flags, rows_in}
+use Rattle.indexed_core.specs.Joined.{told, with_flag, kept_flags, rows_in}
 use Rattle.indexed_core.specs.Parts.{Parts}
 use Rattle.indexed_core.proofs.RowChanges.{IsChanged, bytes_left, changed_joined, changed_rows, flags_undone, not_in_order, order_undone, same_joined, same_rows}
 use Rattle.indexed_core.proofs.index.Index.add.Goals as goal

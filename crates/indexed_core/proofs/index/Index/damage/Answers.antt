@@ -1,4 +1,4 @@
-use Rattle.std.proofs.Common.{List, subst, sym, ap, ◌∙◌, false}
+use Rattle.std.proofs.Common.{subst, sym, ap, ◌∙◌, false}
 use Rattle.store_core.specs.Step.{damaged}
 use Rattle.indexed_core.specs.Joined.{told, Soundness, rows_in, IsJoined}
 use Rattle.indexed_core.specs.Parts.{Parts}
