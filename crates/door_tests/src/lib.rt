@@ -1,7 +1,7 @@
 //! What tests of doors at a lock round a store stand on, and the tests.
 #![tactic(auto)]
 
-ghost use Rattle.std.specs.Prelude.{◌≡◌, ◌+◌};
+ghost use Rattle.std.specs.Prelude.{◌≡◌, ◌+◌, []};
 
 use blob_store::{Gate, MemShelf};
 use std::alloc::Global;
@@ -28,7 +28,18 @@ pub fn unrung() -> Counting
 }
 
 /// A shelf in memory on which nothing is found and no call fails.
-pub fn empty_shelf(alloc: Global) -> MemShelf {
+pub fn empty_shelf(alloc: Global) -> MemShelf
+    ensures { result ≡ record {
+      found = [];
+      failing = [];
+      spoilt = [];
+      calls = 0;
+      drafts = 0;
+      faults = 0;
+      discarded = 0;
+      dropped = 0;
+    } }
+{
     MemShelf::new(alloc, Vec::new(alloc), Vec::new(alloc), Vec::new(alloc))
 }
 
