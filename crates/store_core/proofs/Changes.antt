@@ -1,6 +1,6 @@
 -- The changes that the code makes, in the words of a step.
 use Rattle.std.proofs.Common.{◌≡◌, ◌≢◌, ℕ, ◌+◌, ◌-◌, ◌≤◌, Bool, true, false, cond, not, min, List, [], ◌∷◌, ◌++◌, length, length-append, Option, Some, None, refl, sym, ap, subst, ◌∙◌, arith}
-use Rattle.std.specs.Prelude.{nat_lt, if◌then◌else◌}
+use Rattle.std.specs.Prelude.{nat_lt, is_some, if◌then◌else◌, Result, Ok, Err, OnOk, OnErr}
 use Rattle.std.proofs.lemmas.Bool.{cond_both, cond-true, cond-false, le-ltb, not_from_false}
 use Rattle.std.proofs.lemmas.List.Elements.{filter-append}
 use Rattle.std.proofs.lemmas.List.Sums.{sum_by_push}
@@ -10,11 +10,13 @@ use Rattle.directory_canon.specs.declared.node.Edge.{Edge}
 use Rattle.store_core.specs.declared.state.Row.{Row}
 use Rattle.store_core.specs.declared.event.Reply.{Reply}
 use Rattle.store_core.specs.declared.event.Reply.TheVariants as replies
-use Rattle.store_core.specs.State.{State, IsKept, is_empty, is_among, row_of, others, digests, sizes, used}
+use Rattle.store_core.specs.State.{State, Holds, Valid, IsKept, is_empty, is_among, row_of, has_row, others, digests, sizes, used}
 use Rattle.store_core.specs.Pass.{is_guarded, guarded, unguarded, victims, gone, without, pass}
-use Rattle.store_core.specs.Step.{with_room, with_row, put_over, put}
+use Rattle.store_core.specs.Step.{with_room, with_row, is_open, put_over, put, read, touched, is_here, tells_there, holds_after, holding}
 use Rattle.store_core.proofs.Elements.{every_filter, every_has, every_map, every_take, filter_all}
-use Rattle.store_core.proofs.Kept.{Follows, follows_again, follows_added, follows_pass}
+use Rattle.store_core.proofs.HeldRows.{has_last}
+use Rattle.store_core.proofs.Kept.{Follows, follows_again, follows_added, follows_pass, valid_after_use}
+use Rattle.store_core.proofs.OwnerLaws.{open_has}
 use Rattle.store_core.proofs.Passes.{not_among}
 use Rattle.store_core.proofs.RowLaws.{absent, sizes_filter}
 use Rattle.store_core.proofs.Same.{other_from_not_same}
@@ -24,6 +26,54 @@ kept_follows s t f k = record {
   valid = f.valid k.valid;
   within = omega (arith, f.within k.valid k.within, f.high);
 }
+
+-- ---- holds
+
+-- a hold is added where the reply says that the blob is there
+pub used_is : (t : State) (owner : ℕ) (d : HashAndSize) (reply : Reply) (holds : List Holds) → tells_there reply ≡ true → holds ≡ holds_after t.guard owner d t.holds
+    → (reply, record t { holds = holds }) ≡ holding owner d (reply, t)
+used_is t owner d reply holds there e =
+    let after : State = record t { holds = holds_after t.guard owner d t.holds } in
+    ap (λ (xs : List Holds). (reply, record t { holds = xs })) e ∙ ap (λ (u : State). (reply, u)) (sym (cond-true (tells_there reply) after t there))
+
+-- and none where it doesn't
+pub unused_is : (t : State) (owner : ℕ) (d : HashAndSize) (reply : Reply) → tells_there reply ≡ false → (reply, t) ≡ holding owner d (reply, t)
+unused_is t owner d reply absent =
+    let after : State = record t { holds = holds_after t.guard owner d t.holds } in
+    ap (λ (u : State). (reply, u)) (sym (cond-false (tells_there reply) after t absent))
+
+told_by : (b : Bool) → tells_there (cond b replies.Present replies.Repaired) ≡ true
+told_by true = refl
+told_by false = refl
+
+-- a blob with a row that is put with the hold there already
+pub again_used : (s : State) (owner : ℕ) (d : HashAndSize) (edges : Option (List Edge)) (o : Option Row) → is_some o ≡ true
+    → put_over (record s { holds = holds_after s.guard owner d s.holds }) d edges o ≡ holding owner d (put_over s d edges o)
+again_used s owner d edges None there = absurd cc
+again_used s owner d edges (Some row) there =
+    let reply = cond row.sound replies.Present replies.Repaired in
+    let after = with_row (record s { rows = others d s.rows }) (record row { sound = true }) in
+    used_is after owner d reply (holds_after s.guard owner d s.holds) (told_by row.sound) refl
+
+-- and one that is read so
+pub read_used : (s : State) (owner : ℕ) (d : HashAndSize) → is_here s.rows d ≡ true → read (record s { holds = holds_after s.guard owner d s.holds }) d ≡ holding owner d (read s d)
+read_used s owner d here =
+    let held : State = record s { holds = holds_after s.guard owner d s.holds } in
+    let found : Reply × State = (replies.Found, record s { rows = touched d s.rows }) in
+    cond-true (is_here s.rows d) (replies.Found, record held { rows = touched d s.rows }) (replies.Absent, held) here
+    ∙ ap (holding owner d) (sym (cond-true (is_here s.rows d) found (replies.Absent, s) here))
+
+pub used_keeps : (t : State) (owner : ℕ) (d : HashAndSize) (holds : List Holds) → is_open t owner ≡ true → (is_empty d ≡ false → has_row t.rows d ≡ true) → holds ≡ holds_after t.guard owner d t.holds → IsKept t
+    → IsKept (record t { holds = holds })
+used_keeps t owner d holds there row e kept =
+    let valid : Valid (record t { holds = holds_after t.guard owner d t.holds }) = valid_after_use t owner d (open_has t owner there) row kept.valid in
+    subst (λ (xs : List Holds). IsKept (record t { holds = xs })) (sym e) (record { valid = valid; within = kept.within })
+
+-- the same by the outcome
+pub held_keeps : {E : Type 0} (s : State) (owner : ℕ) (d : HashAndSize) (r : Result (Unit {0}) E) (holds : List Holds) → is_open s owner ≡ true → (is_empty d ≡ false → has_row s.rows d ≡ true)
+    → OnOk r (holds ≡ holds_after s.guard owner d s.holds) → OnErr r (holds ≡ s.holds) → IsKept s → IsKept (record s { holds = holds })
+held_keeps s owner d (Ok tt) holds there row ok err kept = used_keeps s owner d holds there row ok kept
+held_keeps s owner d (Err e) holds there row ok err kept = subst (λ (xs : List Holds). IsKept (record s { holds = xs })) (sym err) kept
 
 -- In each, `now` is the state that contracts see, and s the same by the fields.
 
@@ -133,6 +183,9 @@ module _ (s : State) (d : HashAndSize) (edges : Option (List Edge)) (ds : List H
   added_keeps kept =
       let row = new_row d edges in
       subst IsKept (sym added_state) (kept_follows s (with_row (with_room s d.size) row) (follows_added s row a.none (other_from_not_same d (digest_of []) a.filled) a.small) kept)
+
+  pub added_row : has_row rows d ≡ true
+  added_row = ap (λ (t : State). has_row t.rows d) added_state ∙ has_last d (with_room s d.size).rows (new_row d edges) refl
 
   -- the rows that were removed, and the bytes that are used
   added_counts : (removed bytes : ℕ) → removed ≡ length pushed - length rows → bytes ≡ sizes rows

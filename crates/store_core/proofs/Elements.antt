@@ -1,6 +1,6 @@
 -- Elements of lists: what holds of each of them, what a filter keeps, and what is found.
 use Rattle.std.proofs.Common.{◌≡◌, ℕ, zero, suc, Bool, true, false, cond, List, [], ◌∷◌, ◌++◌, map, take, Option, Some, None, inl, inr, refl, sym, ap, subst, ◌∙◌, arith}
-use Rattle.std.specs.Prelude.{filter, find, Contains, ◌⊎◌}
+use Rattle.std.specs.Prelude.{filter, find, is_some, Contains, ◌⊎◌, ◌||◌}
 use Rattle.std.specs.Option.{option_map}
 use Rattle.std.proofs.lemmas.Option.{same_Some}
 use Rattle.std.specs.List.{AllByRecursion, list_any}
@@ -195,3 +195,12 @@ find_of_map f p (x ∷ xs) h =
     ap (λ b. cond b (Some (f x)) (find p (map f xs))) (h x)
     ∙ ap (λ o. cond (p x) (Some (f x)) o) (find_of_map f p xs h)
     ∙ map_found f (p x) x (find p xs)
+
+-- a test passes somewhere where something is found
+some_by : {X : Type 0} (p : X → Bool) (x : X) (xs : List X) (b : Bool) → list_any p xs ≡ is_some (find p xs) → (b || list_any p xs) ≡ is_some (cond b (Some x) (find p xs))
+some_by p x xs true h = refl
+some_by p x xs false h = h
+
+pub some_found : {X : Type 0} (p : X → Bool) (xs : List X) → list_any p xs ≡ is_some (find p xs)
+some_found p [] = refl
+some_found p (x ∷ xs) = some_by p x xs (p x) (some_found p xs)

@@ -1,25 +1,23 @@
 -- What a legal entry does to the leases of its owner, and to those of others.
-use Rattle.std.proofs.Common.{◌≡◌, ◌≢◌, ℕ, ◌+◌, ◌-◌, Bool, true, false, cond, not, min, List, [], ◌∷◌, ◌++◌, length, map, Option, Some, None, refl, sym, ap, subst, ◌∙◌}
-use Rattle.std.specs.Prelude.{filter, nat_lt, nat_eq, Contains, ◌||◌, ◌&&◌}
+use Rattle.std.proofs.Common.{◌≡◌, ◌≢◌, ℕ, Bool, true, false, cond, not, List, [], ◌∷◌, ◌++◌, map, Option, Some, None, refl, sym, ap, subst, ◌∙◌}
+use Rattle.std.specs.Prelude.{filter, nat_eq, Contains, ◌||◌, ◌&&◌}
 use Rattle.std.specs.List.{list_any}
-use Rattle.std.proofs.lemmas.Bool.{cond_both, cond-true, cond-false, and_parts, eqb-true, eqb-false, eq-eqb, false_from_ne_true, not_from_false, ne_eqb}
+use Rattle.std.proofs.lemmas.Bool.{cond-true, cond-false, and_parts, eqb-true, eqb-false, eq-eqb, false_from_ne_true, not_from_false, ne_eqb}
 use Rattle.std.proofs.lemmas.List.{append-nil}
 use Rattle.std.proofs.lemmas.List.Elements.{filter-append}
-use Rattle.digest_types.specs.Name.{HashAndSize}
 use Rattle.directory_canon.specs.declared.node.Edge.{Edge}
-use Rattle.store_core.specs.declared.state.Row.{Row}
 use Rattle.store_core.specs.declared.state.Lease.{Lease}
 use Rattle.store_core.specs.declared.event.Event.{Event}
 use Rattle.store_core.specs.declared.event.Event.TheVariants as events
 use Rattle.store_core.specs.declared.event.Reply.{Reply}
 use Rattle.store_core.specs.declared.event.Reply.TheVariants as replies
-use Rattle.store_core.specs.State.{State, Valid, DistinctIds, is_empty, row_of, used, has_id, is_of_owner}
-use Rattle.store_core.specs.Pass.{guarded, pass}
-use Rattle.store_core.specs.Step.{is_open, is_opening, with_room, with_row, put_over, put, read, own_lease, confirmed, released, closed, touched, is_here, served, step}
+use Rattle.store_core.specs.State.{State, Valid, DistinctIds, has_id, is_of_owner, other_holds}
+use Rattle.store_core.specs.Step.{is_open, is_opening, own_lease, confirmed, released, closed, served, step}
 use Rattle.store_core.specs.History.{Entry, state, IsLegalAt, Legal, own, new_lease, own_after, own_leases, leases_of}
 use Rattle.store_core.proofs.Elements.{every_has, find_has, filter_inner, filter_swap}
 use Rattle.store_core.proofs.Kept.{chosen, follows_step}
 use Rattle.store_core.proofs.OwnerLaws.{one_lease}
+use Rattle.store_core.proofs.Uses.{put_uses, read_uses}
 
 -- ---- a legal entry is served
 
@@ -37,32 +35,13 @@ step_served s entry legal =
 
 -- ---- events that change no leases
 
-room_leases : (s : State) (size : ℕ) → (with_room s size).leases ≡ s.leases
-room_leases s size = cond_both (nat_lt s.high (used s + size)) (pass s (min s.low (s.high - size))) s (λ t. t.leases ≡ s.leases) (λ _. refl) (λ _. refl)
-
-put_over_leases : (s : State) (d : HashAndSize) (edges : Option (List Edge)) (o : Option Row) → (put_over s d edges o).1.leases ≡ s.leases
-put_over_leases s d edges (Some row) = refl
-put_over_leases s d edges None =
-    let row : Row = record { digest = d; edges = edges; sound = true } in
-    chosen (λ t. t.leases ≡ s.leases) (nat_lt s.high (guarded s + d.size)) (replies.NoSpace (guarded s) d.size s.high, s)
-    (replies.Stored (length s.rows - length (with_room s d.size).rows) (used (with_room s d.size) + d.size), with_row (with_room s d.size) row)
-    (λ _. refl)
-    (λ _. room_leases s d.size)
-
-pub put_leases : (s : State) (d : HashAndSize) (edges : Option (List Edge)) → (put s d edges).1.leases ≡ s.leases
-unfolding put
-put_leases s d edges = chosen (λ t. t.leases ≡ s.leases) (is_empty d) (replies.Present, s) (put_over s d edges (row_of d s.rows)) (λ _. refl) (λ _. put_over_leases s d edges (row_of d s.rows))
-
-pub read_leases : (s : State) (d : HashAndSize) → (read s d).1.leases ≡ s.leases
-read_leases s d = chosen (λ t. t.leases ≡ s.leases) (is_here s.rows d) (replies.Found, record s { rows = touched d s.rows }) (replies.Absent, s) (λ _. refl) (λ _. refl)
-
 pub confirmed_leases : (s : State) (files : Bool) (o : Option Lease) → (confirmed s files o).1.leases ≡ s.leases
 confirmed_leases s files None = refl
 confirmed_leases s files (Some lease) = refl
 
 pub closed_leases : (s : State) (owner : ℕ) → (closed s owner).1.leases ≡ s.leases
 closed_leases s owner =
-    chosen (λ t. t.leases ≡ s.leases) (list_any (is_of_owner owner) s.leases) (replies.Refused, s) (replies.Closed, record s { owners = filter (λ o. not (nat_eq o owner)) s.owners })
+    chosen (λ t. t.leases ≡ s.leases) (list_any (is_of_owner owner) s.leases) (replies.Refused, s) (replies.Closed, record s { owners = filter (λ o. not (nat_eq o owner)) s.owners; holds = other_holds owner s.holds })
     (λ _. refl) (λ _. refl)
 
 -- ---- leases that come and go
@@ -114,9 +93,9 @@ served_own : (s : State) (owner : ℕ) (event : Event) (reply : Reply) → reply
     → leases_of owner (served s owner event).1 ≡ own_after owner event reply (leases_of owner s)
 unfolding served
 served_own s owner events.Open reply e h = refl
-served_own s owner (events.Put d edges) reply e h = ap (filter (is_of_owner owner)) (put_leases s d edges)
+served_own s owner (events.Put d edges) reply e h = ap (filter (is_of_owner owner)) (put_uses s owner d edges).leases
 served_own s owner (events.Find ds) reply e h = refl
-served_own s owner (events.Read d) reply e h = ap (filter (is_of_owner owner)) (read_leases s d)
+served_own s owner (events.Read d) reply e h = ap (filter (is_of_owner owner)) (read_uses s owner d).leases
 served_own s owner (events.Lease root kind) reply e h = taken_own s owner (record { kind = kind; digest = root }) reply e
 served_own s owner (events.Confirm id files) reply e h = ap (filter (is_of_owner owner)) (confirmed_leases s files (own_lease s owner id))
 served_own s owner (events.Release id) reply e h = released_own s owner id (own_lease s owner id) reply e h
@@ -129,9 +108,9 @@ served_own s owner events.Close reply e h = ap (filter (is_of_owner owner)) (clo
 served_other : (s : State) (owner who : ℕ) (event : Event) → DistinctIds s.leases → owner ≢ who → leases_of who (served s owner event).1 ≡ leases_of who s
 unfolding served
 served_other s owner who events.Open distinct other = refl
-served_other s owner who (events.Put d edges) distinct other = ap (filter (is_of_owner who)) (put_leases s d edges)
+served_other s owner who (events.Put d edges) distinct other = ap (filter (is_of_owner who)) (put_uses s owner d edges).leases
 served_other s owner who (events.Find ds) distinct other = refl
-served_other s owner who (events.Read d) distinct other = ap (filter (is_of_owner who)) (read_leases s d)
+served_other s owner who (events.Read d) distinct other = ap (filter (is_of_owner who)) (read_uses s owner d).leases
 served_other s owner who (events.Lease root kind) distinct other = taken_other s owner who (record { kind = kind; digest = root }) other
 served_other s owner who (events.Confirm id files) distinct other = ap (filter (is_of_owner who)) (confirmed_leases s files (own_lease s owner id))
 served_other s owner who (events.Release id) distinct other = released_other s owner who id (own_lease s owner id) refl distinct other

@@ -13,10 +13,10 @@ use Rattle.store_core.specs.declared.event.Event.{Event}
 use Rattle.store_core.specs.declared.event.Event.TheVariants as events
 use Rattle.store_core.specs.declared.event.Reply.{Reply}
 use Rattle.store_core.specs.declared.event.Reply.TheVariants as replies
-use Rattle.store_core.specs.State.{State, Distinct, same, is_empty, is_of, row_of, others, used, roots, is_of_owner}
+use Rattle.store_core.specs.State.{State, Distinct, same, is_empty, is_of, row_of, others, used, roots, is_of_owner, is_held, other_holds}
 use Rattle.store_core.specs.Reach.{Linked, blobs, as_file, as_dir, reaches, is_reached}
 use Rattle.store_core.specs.Pass.{is_guarded, guarded, pass}
-use Rattle.store_core.specs.Step.{with_room, with_row, put_over, put, read, own_lease, confirmed, released, damaged, closed, touched, is_here, served}
+use Rattle.store_core.specs.Step.{with_room, with_row, put_over, put, read, own_lease, confirmed, released, damaged, closed, touched, is_here, holding, served}
 use Rattle.store_core.specs.Guard.{is_repaired, sound_by}
 use Rattle.store_core.proofs.Elements.{find_has, has_map, has_from_map}
 use Rattle.store_core.proofs.Kept.{chosen}
@@ -24,6 +24,7 @@ use Rattle.store_core.proofs.Passes.{pass_row}
 use Rattle.store_core.proofs.ReachLaws.{carried, more_starts, same_tests}
 use Rattle.store_core.proofs.RowLaws.{found_row, row_of_has, push_row, again_row, others_row, damaged_row, turned_touched, turned_touched_all, unsound_if}
 use Rattle.store_core.proofs.Same.{equal_from_same, same_from_equal, other_from_not_same}
+use Rattle.store_core.proofs.Uses.{holding_rows}
 
 -- ---- from rows to what is reached
 
@@ -63,10 +64,11 @@ lease_guards s lease d has e =
     let there = blobs s.rows in
     let starts = roots s.leases in
     let root : Contains starts lease.root = has_map (λ (l : Lease). l.root) s.leases lease has in
-    elim (or_cases (reaches there (lease.root ∷ []) (as_file d)) (reaches there (lease.root ∷ []) (as_dir d)) e) [
+    or_left (is_reached there starts d) (is_held s.holds d)
+    (elim (or_cases (reaches there (lease.root ∷ []) (as_file d)) (reaches there (lease.root ∷ []) (as_dir d)) e) [
       | inl file ↦ or_left (reaches there starts (as_file d)) (reaches there starts (as_dir d)) (more_starts there starts lease.root (as_file d) root file)
       | inr dir ↦ or_right (reaches there starts (as_file d)) (reaches there starts (as_dir d)) (more_starts there starts lease.root (as_dir d) root dir)
-    ]
+    ])
 
 -- ---- the rows after an event
 
@@ -138,6 +140,10 @@ put_kept s lease p edges has =
     (λ _. unrepaired s lease.root p present refl (λ d row reached e. e))
     (λ _. put_over_kept s lease p edges (row_of p s.rows) refl has)
 
+-- a hold changes no row
+used_kept : (s : State) (root : Edge) (owner : ℕ) (p : HashAndSize) (r : Reply × State) → PutKept s root p r → PutKept s root p (holding owner p r)
+used_kept s root owner p r kept d row reached e = ap (row_of d) (holding_rows owner p r) ∙ kept d row reached e
+
 -- ---- damage, and what changes no row
 
 unsound_is : (b : Bool) (row : Row) → cond b (record row { sound = false }) row ≡ record row { sound = cond b false row.sound }
@@ -175,7 +181,7 @@ released_kept s root id (Some lease) d row reached e = e
 
 closed_kept : (s : State) (root : Edge) (owner : ℕ) → RowsKept root s.rows (closed s owner).1.rows (λ d sound. sound)
 closed_kept s root owner =
-    chosen (λ t. RowsKept root s.rows t.rows (λ d sound. sound)) (list_any (is_of_owner owner) s.leases) (replies.Refused, s) (replies.Closed, record s { owners = filter (λ o. not (nat_eq o owner)) s.owners })
+    chosen (λ t. RowsKept root s.rows t.rows (λ d sound. sound)) (list_any (is_of_owner owner) s.leases) (replies.Refused, s) (replies.Closed, record s { owners = filter (λ o. not (nat_eq o owner)) s.owners; holds = other_holds owner s.holds })
     (λ _ d row reached e. e)
     (λ _ d row reached e. e)
 
@@ -184,9 +190,9 @@ pub served_kept : (s : State) (owner : ℕ) (event : Event) (lease : Lease) → 
     → RowsKept lease.root s.rows (served s owner event).1.rows (λ d sound. sound_by d event (served s owner event).0 sound)
 unfolding served
 served_kept s owner events.Open lease has d row reached e = e
-served_kept s owner (events.Put p edges) lease has d row reached e = put_kept s lease p edges has d row reached e
+served_kept s owner (events.Put p edges) lease has d row reached e = used_kept s lease.root owner p (put s p edges) (put_kept s lease p edges has) d row reached e
 served_kept s owner (events.Find ds) lease has d row reached e = (turned_touched_all ds s.rows).row d ∙ e
-served_kept s owner (events.Read p) lease has d row reached e = read_kept s lease.root p d row reached e
+served_kept s owner (events.Read p) lease has d row reached e = ap (row_of d) (holding_rows owner p (read s p)) ∙ read_kept s lease.root p d row reached e
 served_kept s owner (events.Lease root kind) lease has d row reached e = e
 served_kept s owner (events.Confirm id files) lease has d row reached e = confirmed_kept s lease.root files (own_lease s owner id) d row reached e
 served_kept s owner (events.Release id) lease has d row reached e = released_kept s lease.root id (own_lease s owner id) d row reached e

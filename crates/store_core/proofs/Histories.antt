@@ -16,9 +16,10 @@ use Rattle.store_core.specs.Step.{own_lease, released, served, step}
 use Rattle.store_core.specs.History.{Entry, state, IsLegalAt, Legal}
 use Rattle.store_core.specs.Guard.{releases, is_release, sound_by, sound_after, IsKeptBy}
 use Rattle.store_core.proofs.Elements.{has_filter}
-use Rattle.store_core.proofs.Entries.{step_served, put_leases, read_leases, confirmed_leases, closed_leases, released_is_own}
+use Rattle.store_core.proofs.Entries.{step_served, confirmed_leases, closed_leases, released_is_own}
 use Rattle.store_core.proofs.Guarding.{RowsKept, reach_kept, served_kept}
 use Rattle.store_core.proofs.Kept.{follows_step}
+use Rattle.store_core.proofs.Uses.{put_uses, read_uses}
 
 -- ---- a history in two parts
 
@@ -55,9 +56,9 @@ served_held : (s : State) (owner : ℕ) (event : Event) (lease : Lease) → Dist
     → Contains (served s owner event).1.leases lease
 unfolding served
 served_held s owner events.Open lease distinct has kept = has
-served_held s owner (events.Put d edges) lease distinct has kept = subst (λ (leases : List Lease). Contains leases lease) (sym (put_leases s d edges)) has
+served_held s owner (events.Put d edges) lease distinct has kept = subst (λ (leases : List Lease). Contains leases lease) (sym (put_uses s owner d edges).leases) has
 served_held s owner (events.Find ds) lease distinct has kept = has
-served_held s owner (events.Read d) lease distinct has kept = subst (λ (leases : List Lease). Contains leases lease) (sym (read_leases s d)) has
+served_held s owner (events.Read d) lease distinct has kept = subst (λ (leases : List Lease). Contains leases lease) (sym (read_uses s owner d).leases) has
 served_held s owner (events.Lease root kind) lease distinct has kept = Contains-append_left s.leases _ lease has
 served_held s owner (events.Confirm id files) lease distinct has kept = subst (λ (leases : List Lease). Contains leases lease) (sym (confirmed_leases s files (own_lease s owner id))) has
 served_held s owner (events.Release id) lease distinct has kept = unreleased s owner id lease (own_lease s owner id) refl distinct has kept

@@ -1,8 +1,8 @@
 -- What each step keeps: a valid state stays valid, and one within its high mark within it.
-use Rattle.std.proofs.Common.{◌≡◌, ◌≢◌, ℕ, ◌+◌, ◌-◌, ◌<◌, ◌≤◌, Bool, true, false, cond, not, min, List, [], ◌∷◌, ◌++◌, length, Option, Some, None, inl, inr, refl, ap, arith}
-use Rattle.std.specs.Prelude.{filter, nat_lt, nat_eq, Contains, ◌||◌}
+use Rattle.std.proofs.Common.{◌≡◌, ◌≢◌, ℕ, ◌+◌, ◌-◌, ◌<◌, ◌≤◌, Bool, true, false, cond, not, min, List, [], ◌∷◌, ◌++◌, length, Option, Some, None, inl, inr, refl, sym, ap, subst, ◌∙◌, arith}
+use Rattle.std.specs.Prelude.{filter, nat_lt, nat_eq, Contains, ◌||◌, ◌&&◌}
 use Rattle.std.specs.List.{AllByRecursion, list_any}
-use Rattle.std.proofs.lemmas.Bool.{cond_both, ltb-false}
+use Rattle.std.proofs.lemmas.Bool.{cond_both, ltb-false, not-true, and_parts, or_cases, or_right}
 use Rattle.std.proofs.lemmas.List.Elements.{Contains-append_left}
 use Rattle.std.proofs.lemmas.List.Sums.{sum_by_push}
 use Rattle.digest_types.specs.Name.{HashAndSize}
@@ -14,14 +14,18 @@ use Rattle.store_core.specs.declared.event.Event.{Event}
 use Rattle.store_core.specs.declared.event.Event.TheVariants as events
 use Rattle.store_core.specs.declared.event.Reply.{Reply}
 use Rattle.store_core.specs.declared.event.Reply.TheVariants as replies
-use Rattle.store_core.specs.State.{State, Valid, Distinct, is_empty, is_among, row_of, others, sizes, used, has_id, is_of_owner}
+use Rattle.store_core.specs.State.{State, Holds, Valid, Distinct, same, is_empty, is_among, row_of, has_row, others, sizes, used, roots, has_id, is_of_owner, is_session, is_holder, is_held, with_hold, other_holds}
+use Rattle.store_core.specs.Reach.{blobs, is_reached}
 use Rattle.store_core.specs.Pass.{guarded, gone, pass}
-use Rattle.store_core.specs.Step.{is_open, is_opening, with_room, with_row, put_over, put, read, leased, own_lease, confirmed, released, damaged, opened, closed, touched, touched_all, is_here, served, step}
+use Rattle.store_core.specs.Step.{is_open, is_opening, with_room, with_row, put_over, put, read, leased, own_lease, confirmed, released, damaged, opened, closed, touched, touched_all, is_here, tells_there, holds_after, holding, served, step}
 use Rattle.store_core.proofs.Elements.{every_filter, every_push, every_weaker, every_contains}
+use Rattle.store_core.proofs.HeldRows.{HaveRows, has_as_before, held_turned, held_damaged, held_push, held_again}
+use Rattle.store_core.proofs.HoldLaws.{any_filter, held_with, every_with, distinct_with, distinct_holds_filter, holders_stay}
 use Rattle.store_core.proofs.OwnerLaws.{HasOtherId, distinct_ids_filter, distinct_ids_push, open_has, owners_stay}
-use Rattle.store_core.proofs.Passes.{pass_down}
+use Rattle.store_core.proofs.Passes.{pass_down, pass_row}
 use Rattle.store_core.proofs.RowLaws.{Filled, IsTurned, distinct_filter, distinct_push, sizes_filter, absent, found_row, again_distinct, again_filled, turned_every, turned_touched, turned_touched_all, damaged_distinct, damaged_filled, damaged_sizes}
-use Rattle.store_core.proofs.Same.{other_from_not_same}
+use Rattle.store_core.proofs.Same.{equal_from_same, other_from_not_same}
+use Rattle.store_core.proofs.Uses.{HasItsRow, put_alone, read_alone, put_row, read_row}
 
 -- what a state keeps of the one before it
 pub record Follows (s t : State) : Type 0 where
@@ -29,11 +33,12 @@ pub record Follows (s t : State) : Type 0 where
   pub within : Valid s → used s ≤ s.high → used t ≤ s.high
   pub low : t.low ≡ s.low
   pub high : t.high ≡ s.high
+  pub guard : t.guard ≡ s.guard
   pub owners : t.next_owner ≤ s.next_owner + 1
   pub leases : t.next_lease ≤ s.next_lease + 1
 
 pub follows_itself : (s : State) → Follows s s
-follows_itself s = record { valid = λ v. v; within = λ v h. h; low = refl; high = refl; owners = omega arith; leases = omega arith }
+follows_itself s = record { valid = λ v. v; within = λ v h. h; low = refl; high = refl; guard = refl; owners = omega arith; leases = omega arith }
 
 -- what holds of the states of both outcomes holds of that of the one that is chosen
 pub chosen : (P : State → Type 0) (b : Bool) (x y : Reply × State) → (b ≡ true → P x.1) → (b ≡ false → P y.1) → P (cond b x y).1
@@ -42,38 +47,75 @@ chosen P false x y p q = q refl
 
 -- ---- rows
 
-pub valid_rows : (s : State) (rows : List Row) → Valid s → Distinct rows → Filled rows → Valid (record s { rows = rows })
-valid_rows s rows v distinct filled = record {
-  distinct = distinct;
-  filled = filled;
+-- rows that a valid state may have beside its holds
+pub record Good (s : State) (rows : List Row) : Type 0 where
+  pub distinct : Distinct rows
+  pub filled : Filled rows
+  pub held : HaveRows s.holds rows
+
+good_now : (s : State) → Valid s → Good s s.rows
+good_now s v = record { distinct = v.distinct; filled = v.filled; held = v.hold_rows }
+
+pub valid_rows : (s : State) (rows : List Row) → Valid s → Good s rows → Valid (record s { rows = rows })
+valid_rows s rows v good = record {
+  distinct = good.distinct;
+  filled = good.filled;
   lease_ids = v.lease_ids;
   lease_numbers = v.lease_numbers;
   lease_owners = v.lease_owners;
+  holds = v.holds;
+  hold_owners = v.hold_owners;
+  hold_rows = good.held;
+  unheld = v.unheld;
   owners = v.owners;
 }
 
 -- a change of the rows alone
-pub follows_rows : (s : State) (rows : List Row) → (Valid s → Distinct rows × Filled rows) → (Valid s → used s ≤ s.high → sizes rows ≤ s.high) → Follows s (record s { rows = rows })
+pub follows_rows : (s : State) (rows : List Row) → (Valid s → Good s rows) → (Valid s → used s ≤ s.high → sizes rows ≤ s.high) → Follows s (record s { rows = rows })
 follows_rows s rows good fits = record {
-  valid = λ v. valid_rows s rows v (good v).0 (good v).1;
+  valid = λ v. valid_rows s rows v (good v);
   within = fits;
   low = refl;
   high = refl;
+  guard = refl;
   owners = omega arith;
   leases = omega arith;
 }
 
-pub follows_turned : (s : State) (rows : List Row) → IsTurned s.rows rows → Follows s (record s { rows = rows })
-follows_turned s rows t = follows_rows s rows (λ v. (t.distinct v.distinct, turned_every (λ row. row.digest ≢ digest_of []) s.rows rows t v.filled)) (λ v h. omega (arith, t.bytes))
+good_turned : (s : State) (rows : List Row) → IsTurned s.rows rows → Valid s → Good s rows
+good_turned s rows t v = record {
+  distinct = t.distinct v.distinct;
+  filled = turned_every (λ row. row.digest ≢ digest_of []) s.rows rows t v.filled;
+  held = held_turned s.holds s.rows rows t v.hold_rows;
+}
 
-pub follows_filter : (s : State) (p : Row → Bool) → Follows s (record s { rows = filter p s.rows })
-follows_filter s p = follows_rows s (filter p s.rows) (λ v. (distinct_filter p s.rows v.distinct, every_filter (λ row. row.digest ≢ digest_of []) p s.rows v.filled)) (λ v h. omega (arith, sizes_filter p s.rows))
+pub follows_turned : (s : State) (rows : List Row) → IsTurned s.rows rows → Follows s (record s { rows = rows })
+follows_turned s rows t = follows_rows s rows (good_turned s rows t) (λ v h. omega (arith, t.bytes))
+
+-- some rows stay, and those that are held among them
+good_filter : (s : State) (p : Row → Bool) → HaveRows s.holds (filter p s.rows) → Valid s → Good s (filter p s.rows)
+good_filter s p held v = record {
+  distinct = distinct_filter p s.rows v.distinct;
+  filled = every_filter (λ row. row.digest ≢ digest_of []) p s.rows v.filled;
+  held = held;
+}
+
+pub follows_filter : (s : State) (p : Row → Bool) → (Valid s → HaveRows s.holds (filter p s.rows)) → Follows s (record s { rows = filter p s.rows })
+follows_filter s p held = follows_rows s (filter p s.rows) (λ v. good_filter s p (held v) v) (λ v h. omega (arith, sizes_filter p s.rows))
+
+-- a pass takes nothing that is held
+held_passed : (s : State) (target : ℕ) → Valid s → HaveRows s.holds (pass s target).rows
+held_passed s target v d e =
+    has_as_before d s.rows (pass s target).rows (pass_row s target d (or_right (is_reached (blobs s.rows) (roots s.leases) d) (is_held s.holds d) e)) ∙ v.hold_rows d e
 
 pub follows_pass : (s : State) (target : ℕ) → Follows s (pass s target)
-follows_pass s target = follows_filter s (λ row. not (is_among (gone s target) row.digest))
+follows_pass s target = follows_filter s (λ row. not (is_among (gone s target) row.digest)) (held_passed s target)
 
 pub follows_damaged : (s : State) (d : HashAndSize) → Follows s (record s { rows = damaged d s.rows })
-follows_damaged s d = follows_rows s (damaged d s.rows) (λ v. (damaged_distinct d s.rows v.distinct, damaged_filled d s.rows v.filled)) (λ v h. omega (arith, damaged_sizes d s.rows))
+follows_damaged s d =
+    follows_rows s (damaged d s.rows)
+    (λ v. record { distinct = damaged_distinct d s.rows v.distinct; filled = damaged_filled d s.rows v.filled; held = held_damaged s.holds d s.rows v.hold_rows })
+    (λ v h. omega (arith, damaged_sizes d s.rows))
 
 -- a row is put again
 pub follows_again : (s : State) (d : HashAndSize) (row : Row) → row_of d s.rows ≡ Some row → Follows s (with_row (record s { rows = others d s.rows }) (record row { sound = true }))
@@ -81,15 +123,25 @@ follows_again s d row e =
     let f = found_row d s.rows row e in
     let sound : Row = record row { sound = true } in
     follows_rows s (others d s.rows ++ sound ∷ [])
-    (λ v. (again_distinct d s.rows sound f.digest v.distinct, again_filled d s.rows sound (every_contains (λ r. r.digest ≢ digest_of []) s.rows row v.filled f.has) v.filled))
+    (λ v. record {
+      distinct = again_distinct d s.rows sound f.digest v.distinct;
+      filled = again_filled d s.rows sound (every_contains (λ r. r.digest ≢ digest_of []) s.rows row v.filled f.has) v.filled;
+      held = held_again s.holds d s.rows sound f.digest v.hold_rows;
+    })
     (λ v h. let size : row.digest.size ≡ d.size = ap (λ (x : HashAndSize). x.size) f.digest in omega (arith, f.bytes, sum_by_push (λ (r : Row). r.digest.size) (others d s.rows) sound))
 
 -- a row is added to rows of other digests
-follows_new : (s : State) (rows : List Row) (row : Row) → (Valid s → Distinct rows × Filled rows) → AllByRecursion (λ other. other.digest ≢ row.digest) rows → row.digest ≢ digest_of []
+follows_new : (s : State) (rows : List Row) (row : Row) → (Valid s → Good s rows) → AllByRecursion (λ other. other.digest ≢ row.digest) rows → row.digest ≢ digest_of []
     → (Valid s → sizes rows + row.digest.size ≤ s.high) → Follows s (record s { rows = rows ++ row ∷ [] })
 follows_new s rows row good differ filled fits =
     follows_rows s (rows ++ row ∷ [])
-    (λ v. let g = good v in (distinct_push rows row g.0 differ, every_push (λ r. r.digest ≢ digest_of []) rows row g.1 filled))
+    (λ v.
+    let g = good v in
+    record {
+      distinct = distinct_push rows row g.distinct differ;
+      filled = every_push (λ r. r.digest ≢ digest_of []) rows row g.filled filled;
+      held = held_push s.holds rows row g.held;
+    })
     (λ v h. omega (arith, fits v, sum_by_push (λ (r : Row). r.digest.size) rows row))
 
 -- there is room after a pass for what the high mark leaves beside the guarded bytes
@@ -105,11 +157,11 @@ follows_added s row none filled small =
     let stays : Row → Bool = λ r. not (is_among (gone s target) r.digest) in
     cond_both (nat_lt s.high (used s + size)) (pass s target) s (λ t. Follows s (with_row t row))
     (λ _. follows_new s (filter stays s.rows) row
-    (λ v. (distinct_filter stays s.rows v.distinct, every_filter (λ r. r.digest ≢ digest_of []) stays s.rows v.filled))
+    (λ v. good_filter s stays (held_passed s target v) v)
     (every_filter (λ r. r.digest ≢ row.digest) stays s.rows differ)
     filled
     (λ v. room_after s size v small))
-    (λ fits. follows_new s s.rows row (λ v. (v.distinct, v.filled)) differ filled (λ v. ltb-false _ _ fits))
+    (λ fits. follows_new s s.rows row (good_now s) differ filled (λ v. ltb-false _ _ fits))
 
 follows_put_over : (s : State) (d : HashAndSize) (edges : Option (List Edge)) (o : Option Row) → row_of d s.rows ≡ o → d ≢ digest_of [] → Follows s (put_over s d edges o).1
 follows_put_over s d edges (Some row) e filled = follows_again s d row e
@@ -133,6 +185,47 @@ follows_read s d =
     (λ _. follows_turned s (touched d s.rows) (turned_touched d s.rows))
     (λ _. follows_itself s)
 
+-- ---- holds
+
+-- an owner that is open holds one more digest that has a row
+pub valid_with : (s : State) (owner : ℕ) (d : HashAndSize) → Contains s.owners owner → has_row s.rows d ≡ true → is_session s.guard ≡ true → Valid s → Valid (record s { holds = with_hold owner d s.holds })
+valid_with s owner d there row session v = record {
+  distinct = v.distinct;
+  filled = v.filled;
+  lease_ids = v.lease_ids;
+  lease_numbers = v.lease_numbers;
+  lease_owners = v.lease_owners;
+  holds = distinct_with owner d s.holds v.holds;
+  hold_owners = every_with (λ o. Contains s.owners o) owner d s.holds there v.hold_owners;
+  hold_rows = λ q e. elim (or_cases (is_held s.holds q) (same q d) (sym (held_with owner d q s.holds) ∙ e)) [
+    | inl before ↦ v.hold_rows q before
+    | inr is ↦ ap (has_row s.rows) (equal_from_same q d is) ∙ row
+  ];
+  unheld = λ e. absurd cc;
+  owners = v.owners;
+}
+
+pub valid_after_use : (s : State) (owner : ℕ) (d : HashAndSize) → Contains s.owners owner → (is_empty d ≡ false → has_row s.rows d ≡ true) → Valid s → Valid (record s { holds = holds_after s.guard owner d s.holds })
+valid_after_use s owner d there row v =
+    cond_both (is_session s.guard && not (is_empty d)) (with_hold owner d s.holds) s.holds (λ holds. Valid (record s { holds = holds }))
+    (λ held. let parts = and_parts (is_session s.guard) (not (is_empty d)) held in valid_with s owner d there (row (not-true (is_empty d) parts.1)) parts.0 v)
+    (λ _. v)
+
+-- a blob is used
+pub follows_use : (s : State) (owner : ℕ) (d : HashAndSize) (r : Reply × State) → Follows s r.1 → Contains r.1.owners owner → (is_empty d ≡ false → HasItsRow d r) → Follows s (holding owner d r).1
+follows_use s owner d r f there row =
+    cond_both (tells_there r.0) (record r.1 { holds = holds_after r.1.guard owner d r.1.holds }) r.1 (Follows s)
+    (λ told. record {
+      valid = λ v. valid_after_use r.1 owner d there (λ filled. row filled told) (f.valid v);
+      within = f.within;
+      low = f.low;
+      high = f.high;
+      guard = f.guard;
+      owners = f.owners;
+      leases = f.leases;
+    })
+    (λ _. f)
+
 -- ---- leases
 
 -- an open owner takes a lease with the next number
@@ -143,6 +236,10 @@ valid_leased s lease is is_there v = record {
   lease_ids = distinct_ids_push s.leases lease v.lease_ids (every_weaker (λ l. l.id < s.next_lease) (HasOtherId lease) (λ l lt e. omega arith) s.leases v.lease_numbers);
   lease_numbers = every_push (λ l. l.id < s.next_lease + 1) s.leases lease (every_weaker (λ l. l.id < s.next_lease) (λ l. l.id < s.next_lease + 1) (λ l lt. omega arith) s.leases v.lease_numbers) (omega arith);
   lease_owners = every_push (λ l. Contains s.owners l.owner) s.leases lease v.lease_owners is_there;
+  holds = v.holds;
+  hold_owners = v.hold_owners;
+  hold_rows = v.hold_rows;
+  unheld = v.unheld;
   owners = v.owners;
 }
 
@@ -153,6 +250,10 @@ valid_released s p v = record {
   lease_ids = distinct_ids_filter p s.leases v.lease_ids;
   lease_numbers = every_filter (λ l. l.id < s.next_lease) p s.leases v.lease_numbers;
   lease_owners = every_filter (λ l. Contains s.owners l.owner) p s.leases v.lease_owners;
+  holds = v.holds;
+  hold_owners = v.hold_owners;
+  hold_rows = v.hold_rows;
+  unheld = v.unheld;
   owners = v.owners;
 }
 
@@ -162,6 +263,7 @@ follows_leased s owner root is_there = record {
   within = λ v h. h;
   low = refl;
   high = refl;
+  guard = refl;
   owners = omega arith;
   leases = omega arith;
 }
@@ -177,6 +279,7 @@ follows_released s id (Some lease) = record {
   within = λ v h. h;
   low = refl;
   high = refl;
+  guard = refl;
   owners = omega arith;
   leases = omega arith;
 }
@@ -190,37 +293,52 @@ valid_opened s v = record {
   lease_ids = v.lease_ids;
   lease_numbers = v.lease_numbers;
   lease_owners = every_weaker (λ l. Contains s.owners l.owner) (λ l. Contains (s.owners ++ s.next_owner ∷ []) l.owner) (λ l has. Contains-append_left s.owners (s.next_owner ∷ []) l.owner has) s.leases v.lease_owners;
+  holds = v.holds;
+  hold_owners = every_weaker (λ h. Contains s.owners h.owner) (λ h. Contains (s.owners ++ s.next_owner ∷ []) h.owner) (λ h has. Contains-append_left s.owners (s.next_owner ∷ []) h.owner has) s.holds v.hold_owners;
+  hold_rows = v.hold_rows;
+  unheld = v.unheld;
   owners = every_push (λ o. o < s.next_owner + 1) s.owners s.next_owner (every_weaker (λ o. o < s.next_owner) (λ o. o < s.next_owner + 1) (λ o lt. omega arith) s.owners v.owners) (omega arith);
 }
 
--- an owner without leases goes
-pub valid_gone : (s : State) (owner : ℕ) → list_any (is_of_owner owner) s.leases ≡ false → Valid s → Valid (record s { owners = filter (λ o. not (nat_eq o owner)) s.owners })
+-- an owner without leases goes, and its holds
+pub valid_gone : (s : State) (owner : ℕ) → list_any (is_of_owner owner) s.leases ≡ false → Valid s
+    → Valid (record s { owners = filter (λ o. not (nat_eq o owner)) s.owners; holds = other_holds owner s.holds })
 valid_gone s owner none v = record {
   distinct = v.distinct;
   filled = v.filled;
   lease_ids = v.lease_ids;
   lease_numbers = v.lease_numbers;
   lease_owners = owners_stay owner s.owners s.leases none v.lease_owners;
+  holds = distinct_holds_filter (λ held. not (is_holder owner held)) s.holds v.holds;
+  hold_owners = holders_stay owner s.owners s.holds v.hold_owners;
+  hold_rows = λ d e. v.hold_rows d (any_filter (λ (held : Holds). is_among held.digests d) (λ (held : Holds). not (is_holder owner held)) s.holds e);
+  unheld = λ e. ap (other_holds owner) (v.unheld e);
   owners = every_filter (λ o. o < s.next_owner) (λ o. not (nat_eq o owner)) s.owners v.owners;
 }
 
 pub follows_opened : (s : State) → Follows s (opened s).1
-follows_opened s = record { valid = valid_opened s; within = λ v h. h; low = refl; high = refl; owners = omega arith; leases = omega arith }
+follows_opened s = record { valid = valid_opened s; within = λ v h. h; low = refl; high = refl; guard = refl; owners = omega arith; leases = omega arith }
 
 pub follows_closed : (s : State) (owner : ℕ) → Follows s (closed s owner).1
 follows_closed s owner =
-    chosen (Follows s) (list_any (is_of_owner owner) s.leases) (replies.Refused, s) (replies.Closed, record s { owners = filter (λ o. not (nat_eq o owner)) s.owners })
+    chosen (Follows s) (list_any (is_of_owner owner) s.leases) (replies.Refused, s) (replies.Closed, record s { owners = filter (λ o. not (nat_eq o owner)) s.owners; holds = other_holds owner s.holds })
     (λ _. follows_itself s)
-    (λ none. record { valid = valid_gone s owner none; within = λ v h. h; low = refl; high = refl; owners = omega arith; leases = omega arith })
+    (λ none. record { valid = valid_gone s owner none; within = λ v h. h; low = refl; high = refl; guard = refl; owners = omega arith; leases = omega arith })
 
 -- ---- a step
 
 follows_served : (s : State) (owner : ℕ) (event : Event) → (is_opening event || is_open s owner) ≡ true → Follows s (served s owner event).1
 unfolding served
 follows_served s owner events.Open is_served = follows_opened s
-follows_served s owner (events.Put d edges) is_served = follows_put s d edges
+follows_served s owner (events.Put d edges) is_served =
+    follows_use s owner d (put s d edges) (follows_put s d edges)
+    (subst (λ (t : State). Contains t.owners owner) (sym (put_alone s d edges)) (open_has s owner is_served))
+    (put_row s d edges)
 follows_served s owner (events.Find ds) is_served = follows_turned s (touched_all ds s.rows) (turned_touched_all ds s.rows)
-follows_served s owner (events.Read d) is_served = follows_read s d
+follows_served s owner (events.Read d) is_served =
+    follows_use s owner d (read s d) (follows_read s d)
+    (subst (λ (t : State). Contains t.owners owner) (sym (read_alone s d)) (open_has s owner is_served))
+    (read_row s d)
 follows_served s owner (events.Lease root kind) is_served = follows_leased s owner (record { kind = kind; digest = root }) (open_has s owner is_served)
 follows_served s owner (events.Confirm id files) is_served = follows_confirmed s files (own_lease s owner id)
 follows_served s owner (events.Release id) is_served = follows_released s id (own_lease s owner id)

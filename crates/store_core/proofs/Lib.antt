@@ -7,9 +7,13 @@ pub mod ReachedLaws
 pub mod WalkLaws
 pub mod StandingLaws
 pub mod RowLaws
+pub mod HoldLaws
+pub mod HeldRows
 pub mod OwnerLaws
 pub mod Passes
+pub mod Uses
 pub mod Kept
+pub mod HoldHistories
 pub mod Entries
 pub mod Guarding
 pub mod Histories

@@ -10,8 +10,8 @@ use Rattle.std.proofs.lemmas.List.Sums.{sum_by-cons}
 use Rattle.digest_types.specs.Name.{HashAndSize}
 use Rattle.directory_canon.specs.declared.node.Edge.{Edge}
 use Rattle.store_core.specs.declared.state.Row.{Row}
-use Rattle.store_core.specs.State.{State, Distinct, same, is_among, digests, total, sizes, used, roots, is_of, row_of}
-use Rattle.store_core.specs.Reach.{Linked, blobs, as_file, as_dir, reaches}
+use Rattle.store_core.specs.State.{State, Distinct, same, is_among, digests, total, sizes, used, roots, is_of, row_of, is_held}
+use Rattle.store_core.specs.Reach.{Linked, blobs, as_file, as_dir, reaches, is_reached}
 use Rattle.store_core.specs.Pass.{is_guarded, guarded, unguarded, victims, frees, gone, without, pass}
 use Rattle.store_core.proofs.Elements.{every_filter, every_has, every_map, every_take, every_weaker, has_filter, has_from_filter, has_map, filter_of_map, filter_same_on, find_kept}
 use Rattle.store_core.proofs.Least.{least_passes}
@@ -141,9 +141,9 @@ guarded_kept s target row has is = has_filter (λ r. not (is_among (gone s targe
 pub blobs_without : (ds : List HashAndSize) (rows : List Row) → filter (λ blob. not (is_among ds blob.digest)) (blobs rows) ≡ blobs (without ds rows)
 blobs_without ds rows = filter_of_map (λ (row : Row). record { digest = row.digest; edges = row.edges }) (λ (blob : Linked). not (is_among ds blob.digest)) rows
 
--- a digest that goes isn't reached
-pub gone_unreached : (s : State) (target : ℕ) (d : HashAndSize) → not (is_among (gone s target) d) ≡ false → is_guarded s d ≡ false
-gone_unreached s target d e =
+-- a digest that goes isn't guarded
+pub gone_unguarded : (s : State) (target : ℕ) (d : HashAndSize) → not (is_among (gone s target) d) ≡ false → is_guarded s d ≡ false
+gone_unguarded s target d e =
     false_from_ne_true (is_guarded s d) (λ is. let stays : is_among (gone s target) d ≡ false = guarded_stays s target d is in let goes : is_among (gone s target) d ≡ true = not-false (is_among (gone s target) d) e in cc)
 
 -- a pass changes nothing of what the leases reach, and so of what is guarded
@@ -153,11 +153,18 @@ pass_reaches s target pair =
     let starts = roots s.leases in
     ap (λ (left : List Linked). reaches left starts pair) (sym (blobs_without (gone s target) s.rows))
     ∙ removal there starts (λ blob. not (is_among (gone s target) blob.digest))
-    (λ blob has e. (or_parts (reaches there starts (as_file blob.digest)) (reaches there starts (as_dir blob.digest)) (gone_unreached s target blob.digest e)).1)
+    (λ blob has e.
+    let free = (or_parts (is_reached there starts blob.digest) (is_held s.holds blob.digest) (gone_unguarded s target blob.digest e)).0 in
+    (or_parts (reaches there starts (as_file blob.digest)) (reaches there starts (as_dir blob.digest)) free).1)
     pair
 
 pub pass_guards : (s : State) (target : ℕ) (d : HashAndSize) → is_guarded (pass s target) d ≡ is_guarded s d
-pass_guards s target d = ap (λ b. b || reaches (blobs (pass s target).rows) (roots s.leases) (as_dir d)) (pass_reaches s target (as_file d)) ∙ ap (λ b. reaches (blobs s.rows) (roots s.leases) (as_file d) || b) (pass_reaches s target (as_dir d))
+pass_guards s target d =
+    let there = blobs s.rows in
+    let left = blobs (pass s target).rows in
+    let starts = roots s.leases in
+    ap (λ b. (b || reaches left starts (as_dir d)) || is_held s.holds d) (pass_reaches s target (as_file d))
+    ∙ ap (λ b. (reaches there starts (as_file d) || b) || is_held s.holds d) (pass_reaches s target (as_dir d))
 
 -- the row of a guarded digest is found as before
 pub pass_row : (s : State) (target : ℕ) (d : HashAndSize) → is_guarded s d ≡ true → row_of d (pass s target).rows ≡ row_of d s.rows

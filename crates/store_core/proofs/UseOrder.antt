@@ -14,7 +14,7 @@ use Rattle.std.proofs.lemmas.List.{set_at, take_at, at_drop_more, at_drop_all, g
 use Rattle.std.proofs.lemmas.Slice.{put_mid-rotated}
 use Rattle.digest_types.specs.Name.{HashAndSize}
 use Rattle.store_core.specs.declared.state.Row.{Row}
-use Rattle.store_core.specs.State.{is_of, row_of, others, is_sound, Distinct}
+use Rattle.store_core.specs.State.{is_of, row_of, has_row, others, is_sound, Distinct}
 use Rattle.store_core.specs.Step.{touched, touched_all, damaged}
 use Rattle.store_core.proofs.Elements.{every_contains, every_weaker, filter_all, find_missed}
 use Rattle.store_core.proofs.RowLaws.{Differs, unsound_if}
@@ -34,11 +34,18 @@ row_at d rows i x e =
     let lt = ltb-true _ _ h.0 in
     find_at (is_of d) rows ∙ slice_get-get_or rows (position_or_len (is_of d) rows) x lt ∙ ap (λ (k : ℕ). Some (get_or rows k x)) h.1
 
+-- a digest whose row has a place has a row
+pub place_row : (d : HashAndSize) (rows : List Row) (i : ℕ) → position (is_of d) rows ≡ Some i → has_row rows d ≡ true
+place_row d rows i e =
+    let x : Row = record { digest = d; edges = None; sound = true } in
+    let h = position-Some (is_of d) rows i x e in
+    list_any_at (is_of d) rows i x h.0 h.1
+
 pub no_place : (b : Bool) (i : ℕ) → cond b (Some i) None ≡ None → b ≡ false
 no_place true i e = absurd cc
 no_place false i e = refl
 
-nowhere : (p : Row → Bool) (rows : List Row) → position p rows ≡ None → find p rows ≡ None
+pub nowhere : {X : Type 0} (p : X → Bool) (rows : List X) → position p rows ≡ None → find p rows ≡ None
 nowhere p rows e =
     let f = no_place (ltb (position_or_len p rows) (length rows)) (position_or_len p rows) e in
     find_at p rows ∙ slice_get_past rows (position_or_len p rows) (ltb-false _ _ f)

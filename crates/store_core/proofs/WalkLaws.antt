@@ -10,6 +10,7 @@ use Rattle.std.proofs.lemmas.List.Elements.{filter_agree}
 use Rattle.std.proofs.lemmas.Slice.Eq.{slice_eq-Decides}
 use Rattle.directory_canon.specs.declared.node.Edge.{Edge}
 use Rattle.store_core.specs.declared.state.Row.{Row}
+use Rattle.store_core.specs.State.{Holds, is_held}
 use Rattle.store_core.specs.Marks.{near}
 use Rattle.store_core.specs.Ascending.{ascending}
 use Rattle.store_core.specs.Reach.{Linked, as_dir, as_file, blobs, edges_of, is_deep, is_dir, is_nearer, is_pair, is_reached, links_to, pair_cmp, reached, reaches, within}
@@ -105,10 +106,12 @@ reaches_leads rows starts pair =
     ∙ stable (blobs rows) starts pair
 
 -- the same for each row
-pub found_is : (rows : List Row) (starts : List Edge) → found_marks rows starts (near (blobs rows) starts (length rows)) ≡ map (λ row. is_reached (blobs rows) starts row.digest) rows
-found_is rows starts =
+pub found_is : (rows : List Row) (starts : List Edge) (holds : List Holds)
+    → found_marks rows starts (near (blobs rows) starts (length rows)) holds ≡ map (λ row. is_reached (blobs rows) starts row.digest || is_held holds row.digest) rows
+found_is rows starts holds =
     let marks = near (blobs rows) starts (length rows) in
-    map_agree (λ (row : Row). leads rows starts marks (as_file row.digest) || leads rows starts marks (as_dir row.digest)) (λ (row : Row). is_reached (blobs rows) starts row.digest)
+    map_agree (λ (row : Row). (leads rows starts marks (as_file row.digest) || leads rows starts marks (as_dir row.digest)) || is_held holds row.digest)
+    (λ (row : Row). is_reached (blobs rows) starts row.digest || is_held holds row.digest)
     (λ row. rw (reaches_leads rows starts (as_file row.digest), reaches_leads rows starts (as_dir row.digest))) rows
 
 -- ---- the edges of what is marked
@@ -172,6 +175,9 @@ deep_from rows starts steps marks pairs le e is =
     ∙ sym (deep_is (blobs rows) starts steps)
 
 -- without roots no row is reached
-pub none_marked : (rows : List Row) (starts : List Edge) → true ≡ (length starts == 0) → map (λ (row : Row). false) rows ≡ map (λ row. is_reached (blobs rows) starts row.digest) rows
-none_marked rows [] e = map_agree (λ (row : Row). false) (λ row. is_reached (blobs rows) [] row.digest) (λ row. sym (none_reached (blobs rows) row.digest)) rows
-none_marked rows (root ∷ starts) e = absurd (let long : (length (root ∷ starts) == 0) ≡ false = ne_eqb _ _ (λ z. omega (arith, z)) in cc)
+pub none_marked : (rows : List Row) (starts : List Edge) (holds : List Holds) → true ≡ (length starts == 0)
+    → map (λ (row : Row). is_held holds row.digest) rows ≡ map (λ row. is_reached (blobs rows) starts row.digest || is_held holds row.digest) rows
+none_marked rows [] holds e =
+    map_agree (λ (row : Row). is_held holds row.digest) (λ row. is_reached (blobs rows) [] row.digest || is_held holds row.digest)
+    (λ row. ap (λ b. b || is_held holds row.digest) (sym (none_reached (blobs rows) row.digest))) rows
+none_marked rows (root ∷ starts) holds e = absurd (let long : (length (root ∷ starts) == 0) ≡ false = ne_eqb _ _ (λ z. omega (arith, z)) in cc)

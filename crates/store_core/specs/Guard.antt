@@ -1,4 +1,5 @@
--- What a lease keeps: as long as it stands, so do all that it reaches, and their rows.
+-- What guards keep. As long as a lease stands, so do all that it reaches, and their rows; and under the session guard an
+-- owner keeps the rows of what it put and read.
 use Rattle.std.specs.Prelude.{◌≡◌, ◌&&◌, nat_eq, ℕ, Bool, true, false, List, [], ◌∷◌, Contains, Some, if◌then◌else◌}
 use Rattle.digest_types.specs.Name.{HashAndSize}
 use Rattle.directory_canon.specs.declared.node.Edge.{Edge}
@@ -10,6 +11,7 @@ use Rattle.store_core.specs.declared.event.Reply.{Reply}
 use Rattle.store_core.specs.declared.event.Reply.TheVariants as replies
 use Rattle.store_core.specs.State.{State, same, row_of}
 use Rattle.store_core.specs.Reach.{blobs, reaches, is_reached}
+use Rattle.store_core.specs.Step.{tells_there}
 use Rattle.store_core.specs.History.{Entry}
 
 -- whether the event is a Release of this lease
@@ -77,3 +79,41 @@ pub record IsKeptBy (lease : Lease) (entries : List Entry) (before after : State
   pub reach : (pair : Edge) → reaches (blobs before.rows) (lease.root ∷ []) pair ≡ true → reaches (blobs after.rows) (lease.root ∷ []) pair ≡ true
   pub rows : (d : HashAndSize) (row : Row) → is_reached (blobs before.rows) (lease.root ∷ []) d ≡ true → row_of d before.rows ≡ Some row
       → row_of d after.rows ≡ Some (record row { sound = sound_after d entries row.sound })
+
+-- ---- holds
+
+-- whether the event puts or reads this blob
+abbrev pub asks_for : HashAndSize → Event → Bool
+asks_for digest events.Open = false
+asks_for digest (events.Put d edges) = same d digest
+asks_for digest (events.Find ds) = false
+asks_for digest (events.Read d) = same d digest
+asks_for digest (events.Lease root kind) = false
+asks_for digest (events.Confirm id files) = false
+asks_for digest (events.Release id) = false
+asks_for digest (events.Damage d) = false
+asks_for digest events.Pass = false
+asks_for digest events.Usage = false
+asks_for digest events.Close = false
+
+-- whether by an entry its owner put or read this blob, and the reply says that it is there
+abbrev pub is_use_of : HashAndSize → Entry → Bool
+is_use_of digest entry = asks_for digest entry.event && tells_there entry.reply
+
+-- whether the event is Close
+abbrev pub closes : Event → Bool
+closes events.Open = false
+closes (events.Put d edges) = false
+closes (events.Find ds) = false
+closes (events.Read d) = false
+closes (events.Lease root kind) = false
+closes (events.Confirm id files) = false
+closes (events.Release id) = false
+closes (events.Damage d) = false
+closes events.Pass = false
+closes events.Usage = false
+closes events.Close = true
+
+-- whether an entry is the Close of this owner
+abbrev pub is_close : ℕ → Entry → Bool
+is_close owner entry = nat_eq entry.owner owner && closes entry.event

@@ -6,5 +6,6 @@ pub mod Standing
 pub mod Step
 pub mod History
 pub mod Guard
+pub mod Memory
 pub mod Marks
 pub mod Walk

@@ -1,4 +1,4 @@
--- Which rows are reached, in the order of the rows.
+-- Which rows are reached and guarded, in the order of the rows.
 use Rattle.std.specs.Prelude.{ℕ, Bool, List, map}
 use Rattle.directory_canon.specs.declared.node.Edge.{Edge}
 use Rattle.store_core.specs.State.{State}

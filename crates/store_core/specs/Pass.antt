@@ -1,13 +1,13 @@
 -- An expiry pass.
-use Rattle.std.specs.Prelude.{◌-◌, not, nat_le, ℕ, zero, suc, Bool, List, take, filter, length, if◌then◌else◌}
+use Rattle.std.specs.Prelude.{◌-◌, ◌||◌, not, nat_le, ℕ, zero, suc, Bool, List, take, filter, length, if◌then◌else◌}
 use Rattle.digest_types.specs.Name.{HashAndSize}
 use Rattle.store_core.specs.declared.state.Row.{Row}
-use Rattle.store_core.specs.State.{State, is_among, digests, total, sizes, used, roots}
+use Rattle.store_core.specs.State.{State, is_among, digests, total, sizes, used, roots, is_held}
 use Rattle.store_core.specs.Reach.{blobs, is_reached}
 
--- whether some lease reaches the digest
+-- whether some lease reaches the digest, or some owner holds it
 abbrev pub is_guarded : State → HashAndSize → Bool
-is_guarded s d = is_reached (blobs s.rows) (roots s.leases) d
+is_guarded s d = is_reached (blobs s.rows) (roots s.leases) d || is_held s.holds d
 
 -- how many bytes the guarded rows have
 abbrev pub guarded : State → ℕ

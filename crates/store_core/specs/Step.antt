@@ -5,12 +5,13 @@ use Rattle.digest_types.specs.Name.{HashAndSize}
 use Rattle.directory_canon.specs.declared.node.Edge.{Edge}
 use Rattle.store_core.specs.declared.state.Row.{Row}
 use Rattle.store_core.specs.declared.state.Lease.{Lease}
+use Rattle.store_core.specs.declared.state.Guard.{Guard}
 use Rattle.store_core.specs.declared.event.Event.{Event}
 use Rattle.store_core.specs.declared.event.Event.TheVariants as events
 use Rattle.store_core.specs.declared.event.Reply.{Reply}
 use Rattle.store_core.specs.declared.event.Reply.TheVariants as replies
 use Rattle.store_core.specs.Ascending.{firsts}
-use Rattle.store_core.specs.State.{State, same, is_empty, is_of, row_of, others, is_sound, used, has_id, is_of_owner}
+use Rattle.store_core.specs.State.{State, Holds, same, is_empty, is_of, row_of, others, is_sound, used, has_id, is_of_owner, is_session, with_hold, other_holds}
 use Rattle.store_core.specs.Pass.{pass, guarded}
 use Rattle.store_core.specs.Standing.{standing}
 
@@ -69,6 +70,36 @@ found s ds = (replies.Missing (missing s.rows ds), record s { rows = touched_all
 abbrev pub read : State → HashAndSize → Reply × State
 read s d = if is_here s.rows d then (replies.Found, record s { rows = touched d s.rows }) else (replies.Absent, s)
 
+-- ---- holds
+
+-- whether the reply to a Put or a Read says that the blob is there
+abbrev pub tells_there : Reply → Bool
+tells_there (replies.Opened number) = false
+tells_there (replies.Stored removed used) = true
+tells_there replies.Present = true
+tells_there replies.Repaired = true
+tells_there (replies.NoSpace guarded size high) = false
+tells_there (replies.Missing ds) = false
+tells_there replies.Found = true
+tells_there replies.Absent = false
+tells_there (replies.Leased lease) = false
+tells_there (replies.Stands standing) = false
+tells_there replies.Released = false
+tells_there replies.Marked = false
+tells_there (replies.Passed removed used) = false
+tells_there (replies.Used usage) = false
+tells_there replies.Closed = false
+tells_there replies.Refused = false
+
+-- The holds after an owner put or read a blob that is there: under the session guard with this one, unless the blob is
+-- the empty one.
+abbrev pub holds_after : Guard → ℕ → HashAndSize → List Holds → List Holds
+holds_after guard owner d holds = if is_session guard && not (is_empty d) then with_hold owner d holds else holds
+
+-- the same for the state after a Put or a Read of this blob, by the reply
+abbrev pub holding : ℕ → HashAndSize → Reply × State → Reply × State
+holding owner d r = (r.0, if tells_there r.0 then record r.1 { holds = holds_after r.1.guard owner d r.1.holds } else r.1)
+
 -- ---- leases
 
 -- an owner takes a lease
@@ -108,18 +139,18 @@ usage s = (replies.Used (record { used = used s; guarded = guarded s; rows = len
 abbrev pub opened : State → Reply × State
 opened s = (replies.Opened s.next_owner, record s { next_owner = s.next_owner + 1; owners = s.owners ++ s.next_owner ∷ [] })
 
--- an owner goes, unless it holds leases
+-- an owner goes, and its holds, unless it has leases
 abbrev pub closed : State → ℕ → Reply × State
 closed s owner =
     if list_any (is_of_owner owner) s.leases then (replies.Refused, s)
-    else (replies.Closed, record s { owners = filter (λ o. not (nat_eq o owner)) s.owners })
+    else (replies.Closed, record s { owners = filter (λ o. not (nat_eq o owner)) s.owners; holds = other_holds owner s.holds })
 
 -- what an event of an open owner gives
 unfoldable pub served : State → ℕ → Event → Reply × State
 served s owner events.Open = opened s
-served s owner (events.Put d edges) = put s d edges
+served s owner (events.Put d edges) = holding owner d (put s d edges)
 served s owner (events.Find ds) = found s ds
-served s owner (events.Read d) = read s d
+served s owner (events.Read d) = holding owner d (read s d)
 served s owner (events.Lease root kind) = leased s owner (record { kind = kind; digest = root })
 served s owner (events.Confirm id files) = confirmed s files (own_lease s owner id)
 served s owner (events.Release id) = released s id (own_lease s owner id)

@@ -3,6 +3,7 @@ use Rattle.std.specs.Prelude.{◌||◌, ◌&&◌, not, Bool, List, [], map, flat
 use Rattle.std.specs.List.{list_any}
 use Rattle.directory_canon.specs.declared.node.Edge.{Edge}
 use Rattle.store_core.specs.declared.state.Row.{Row}
+use Rattle.store_core.specs.State.{Holds, is_held}
 use Rattle.store_core.specs.Reach.{as_dir, as_file, is_dir, is_pair, links_to}
 
 -- whether a row that is marked links to the pair
@@ -21,9 +22,9 @@ first_marks rows starts = map (λ row. list_any (is_pair (as_dir row.digest)) st
 abbrev pub next_marks : List Row → List Edge → List Bool → List Bool
 next_marks rows starts marks = map (λ row. leads rows starts marks (as_dir row.digest)) rows
 
--- for each row whether the marks lead to its digest, as a file or as a Directory
-abbrev pub found_marks : List Row → List Edge → List Bool → List Bool
-found_marks rows starts marks = map (λ row. leads rows starts marks (as_file row.digest) || leads rows starts marks (as_dir row.digest)) rows
+-- for each row whether the marks lead to its digest, as a file or as a Directory, or some owner holds it
+abbrev pub found_marks : List Row → List Edge → List Bool → List Holds → List Bool
+found_marks rows starts marks holds = map (λ row. (leads rows starts marks (as_file row.digest) || leads rows starts marks (as_dir row.digest)) || is_held holds row.digest) rows
 
 -- the edges of the rows that are marked
 abbrev pub marked_edges : List Row → List Bool → List Edge

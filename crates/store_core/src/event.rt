@@ -92,7 +92,7 @@ pub enum Reply {
     Used { usage: Usage },
     /// The owner is gone.
     Closed,
-    /// No such owner is open, the lease isn't the owner's, or the owner holds leases. Nothing changed.
+    /// No such owner is open, the lease isn't the owner's, or the owner that would go has leases. Nothing changed.
     Refused,
 }
 

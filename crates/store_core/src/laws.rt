@@ -9,13 +9,13 @@ ghost use Rattle.store_core.specs.declared.event.Event.{Event};
 ghost use Rattle.store_core.specs.declared.event.Standing.TheVariants as standings;
 ghost use Rattle.store_core.specs.declared.state.Row.{Row};
 ghost use Rattle.store_core.specs.declared.state.Lease.{Lease};
-ghost use Rattle.store_core.specs.State.{State, Valid, used, is_empty, is_sound, digests};
+ghost use Rattle.store_core.specs.State.{State, Valid, used, is_empty, is_sound, is_session, has_row, digests};
 ghost use Rattle.store_core.specs.Reach.{Linked, blobs, as_dir, is_dir, IsPath, within, reaches, reached, pair_cmp};
 ghost use Rattle.store_core.specs.Pass.{is_guarded, guarded, least, pass};
 ghost use Rattle.store_core.specs.Standing.{standing};
 ghost use Rattle.store_core.specs.Step.{step};
 ghost use Rattle.store_core.specs.History.{Entry, state, Legal, own, own_leases, leases_of};
-ghost use Rattle.store_core.specs.Guard.{is_release, releases, IsKeptBy};
+ghost use Rattle.store_core.specs.Guard.{is_release, releases, IsKeptBy, is_use_of, is_close};
 
 /// A pair is reached exactly where a path leads to it, and within so many steps exactly where one of at most so many
 /// does.
@@ -65,7 +65,7 @@ pub fn pass_takes_the_unguarded()
 pub fn step_keeps()
     ensures valid { (s : State) (owner : ℕ) (event : Event) → Valid s → Valid (step s owner event).1 }
     ensures within { (s : State) (owner : ℕ) (event : Event) → Valid s → used s ≤ s.high → used (step s owner event).1 ≤ s.high }
-    ensures marks { (s : State) (owner : ℕ) (event : Event) → ((step s owner event).1.low ≡ s.low) × ((step s owner event).1.high ≡ s.high) }
+    ensures marks { (s : State) (owner : ℕ) (event : Event) → ((step s owner event).1.low ≡ s.low) × ((step s owner event).1.high ≡ s.high) × ((step s owner event).1.guard ≡ s.guard) }
     ensures owners { (s : State) (owner : ℕ) (event : Event) → (step s owner event).1.next_owner ≤ s.next_owner + 1 }
     ensures leases { (s : State) (owner : ℕ) (event : Event) → (step s owner event).1.next_lease ≤ s.next_lease + 1 }
 {}
@@ -90,4 +90,13 @@ pub fn guard_stands()
         → IsKeptBy lease entries (state s before) (state s (before ++ entries)) }
     ensures owner { (s : State) (before : List Entry) (entry : Entry) (lease : Lease) → Valid s → Legal s (before ++ entry ∷ []) → Contains (state s before).leases lease → IsTrue (releases lease.id entry.event)
         → entry.owner ≡ lease.owner }
+{}
+
+/// Under the session guard an owner keeps what it uses: from an entry by which it put or read a blob that isn't the
+/// empty one, and found it there, until its Close the blob is guarded and has a row.
+pub fn holds_stand()
+    ensures row { (s : State) (before entries : List Entry) (entry : Entry) (d : HashAndSize) → Valid s → is_session s.guard ≡ true → Legal s (before ++ entry ∷ entries)
+        → IsTrue (is_use_of d entry) → is_empty d ≡ false → list_any (is_close entry.owner) entries ≡ false → has_row (state s (before ++ entry ∷ entries)).rows d ≡ true }
+    ensures guarded { (s : State) (before entries : List Entry) (entry : Entry) (d : HashAndSize) → Valid s → is_session s.guard ≡ true → Legal s (before ++ entry ∷ entries)
+        → IsTrue (is_use_of d entry) → is_empty d ≡ false → list_any (is_close entry.owner) entries ≡ false → is_guarded (state s (before ++ entry ∷ entries)) d ≡ true }
 {}

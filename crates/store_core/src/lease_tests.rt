@@ -13,7 +13,8 @@ fn store(alloc: Global, low: u64, high: u64) -> Core
     requires ordered { low ≤ high }
     requires small { high ≤ 1000 }
 {
-    Core::new(alloc, Marks { low, high })
+    let guard = Guard::Leases;
+    Core::new(alloc, Marks { low, high, guard })
 }
 
 /// A digest of a blob of this name and size.

@@ -9,8 +9,8 @@ use directory_canon::Edge;
 use proto_wire::OutOfMemory;
 use std::alloc::Global;
 
-/// Whether an owner holds a lease.
-pub fn holds(leases: &[Lease], owner: u64) -> bool
+/// Whether an owner has a lease.
+pub fn has_lease(leases: &[Lease], owner: u64) -> bool
     ensures { result ≡ list_any (is_of_owner owner) leases.now }
 {
     leases.iter().any(|lease| lease.owner == owner)

@@ -5,6 +5,7 @@
 mod digests;
 mod event;
 mod finding;
+mod holds;
 pub mod laws;
 pub mod leases;
 mod machine;
@@ -22,7 +23,7 @@ pub use machine::Core;
 pub use order::{digests_of, sort_pairs};
 pub use reach::is_dir;
 pub use standing::{MAX_PAIRS, MAX_STEPS, counted};
-pub use state::{Lease, Marks, Row};
+pub use state::{Guard, Lease, Marks, Row};
 
 #[cfg(test)]
 mod lease_tests;

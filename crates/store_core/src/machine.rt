@@ -1,20 +1,21 @@
 //! `Core`.
 
-ghost use Rattle.std.specs.Prelude.{◌≡◌, ◌<◌, ◌≤◌, ◌+◌, ◌-◌, ◌^◌, ◌||◌, [], true, false, min, nat_lt, List, Option, Some, None, position, IfOk, OnErr, IsOk, if◌then◌else◌};
+ghost use Rattle.std.specs.Prelude.{◌≡◌, ◌<◌, ◌≤◌, ◌+◌, ◌-◌, ◌^◌, ◌||◌, [], true, false, min, nat_lt, List, Option, Some, None, position, IfOk, OnOk, OnErr, IsOk, if◌then◌else◌};
 ghost use Rattle.directory_canon.specs.declared.node.Edge.{Edge};
-ghost use Rattle.store_core.specs.State.{new_state, is_empty, is_of, row_of, used};
-ghost use Rattle.store_core.specs.Step.{is_opening, is_open, step, served, opened, put, put_over, found, read, leased, confirmed, released, own_lease, noted, passed, usage, closed};
+ghost use Rattle.store_core.specs.State.{new_state, is_empty, is_of, is_session, has_row, row_of, used};
+ghost use Rattle.store_core.specs.Step.{is_opening, is_open, step, served, opened, put, put_over, holds_after, holding, found, read, leased, confirmed, released, own_lease, noted, passed, usage, closed};
 ghost use Rattle.store_core.specs.Pass.{gone};
 ghost use Rattle.store_core.specs.Marks.{guard_marks};
-ghost use Rattle.store_core.specs.declared.event.Event.TheVariants as events;
+ghost use Rattle.store_core.specs.Memory.{takes_memory, walks};
 
 use crate::digests::is_empty_blob;
 use crate::event::{Event, Reply, Usage};
 use crate::finding::{damage, is_here, missing, touch, touch_all};
-use crate::leases::{holds, own_lease, release, roots};
+use crate::holds::{Holder, drop_holds, hold_used};
+use crate::leases::{has_lease, own_lease, release, roots};
 use crate::owners::{is_among, leave};
 use crate::passing::{gone, guarded_by, remove};
-use crate::reach::reached_rows;
+use crate::reach::guarded_rows;
 use crate::rows::{place_of, renew, sound_row, used_by};
 use crate::standing::standing;
 use crate::state::{Lease, Marks, Row};
@@ -30,6 +31,7 @@ pub struct Core {
     alloc: Global,
     rows: Vec<Row>,
     leases: Vec<Lease>,
+    holds: Vec<Holder>,
     marks: Marks,
     next_owner: u64,
     next_lease: u64,
@@ -44,8 +46,10 @@ impl Model for Core {
     ghost view = { λ c. record {
       rows = c.rows.items;
       leases = c.leases.items;
+      holds = c.holds.items;
       low = c.marks.low;
       high = c.marks.high;
+      guard = c.marks.guard;
       next_owner = c.next_owner;
       next_lease = c.next_lease;
       owners = c.owners.items;
@@ -54,8 +58,10 @@ impl Model for Core {
     ghost invariant = { λ c. IsKept (record {
       rows = c.rows.items;
       leases = c.leases.items;
+      holds = c.holds.items;
       low = c.marks.low;
       high = c.marks.high;
+      guard = c.marks.guard;
       next_owner = c.next_owner;
       next_lease = c.next_lease;
       owners = c.owners.items;
@@ -65,12 +71,13 @@ impl Model for Core {
 impl Core {
     /// An empty store with these marks. It takes no memory.
     pub fn new(alloc: Global, marks: Marks) -> Core
-        ensures { result ≡ new_state marks.low marks.high }
+        ensures { result ≡ new_state marks.low marks.high marks.guard }
     {
         Core {
             alloc,
             rows: Vec::new(alloc),
             leases: Vec::new(alloc),
+            holds: Vec::new(alloc),
             marks,
             next_owner: 1,
             next_lease: 1,
@@ -106,14 +113,14 @@ impl Core {
         self.next_lease
     }
 
-    /// One event of an owner, and the reply. After want of memory all is as before; Close never answers it.
+    /// One event of an owner, and the reply. After want of memory all is as before.
     #[tactic(auto, unfolding(crate::specs::Step::step))]
     pub fn step(&mut self, owner: u64, event: &Event) -> Result<Reply, OutOfMemory>
         requires owners { self.old.next_owner < 2 ^ 64 - 1 }
         requires leases { self.old.next_lease < 2 ^ 64 - 1 }
         ensures ok { IfOk result (λ reply. (reply, self.new) ≡ step self.old owner event.now) }
         ensures err { OnErr result (self.new ≡ self.old) }
-        ensures close { event.now ≡ events.Close → IsOk result }
+        ensures free { takes_memory self.old.guard event.now ≡ false → walks event.now ≡ false → IsOk result }
     {
         if !event.is_opening() && !is_among(&self.owners, owner) {
             return Ok(Reply::Refused);
@@ -129,13 +136,13 @@ impl Core {
         requires leases { self.old.next_lease < 2 ^ 64 - 1 }
         ensures ok { IfOk result (λ reply. (reply, self.new) ≡ served self.old owner event.now) }
         ensures err { OnErr result (self.new ≡ self.old) }
-        ensures close { event.now ≡ events.Close → IsOk result }
+        ensures free { takes_memory self.old.guard event.now ≡ false → walks event.now ≡ false → IsOk result }
     {
         match event {
             Event::Open => self.open(),
-            Event::Put { digest, edges } => self.put(digest, edges),
+            Event::Put { digest, edges } => self.put(owner, digest, edges),
             Event::Find { digests } => self.find(digests.as_slice()),
-            Event::Read { digest } => Ok(self.read(digest)),
+            Event::Read { digest } => self.read(owner, digest),
             Event::Lease { root, kind } => self.lease(
                 owner,
                 Edge {
@@ -164,51 +171,68 @@ impl Core {
         Ok(Reply::Opened { owner })
     }
 
-    // An owner goes, unless it holds leases. Its blobs stay.
+    // An owner goes, and its holds, unless it has leases. Its blobs stay.
     fn close(&mut self, owner: u64) -> Reply
         ensures { (result, self.new) ≡ closed self.old owner }
     {
-        if holds(&self.leases, owner) {
+        if has_lease(&self.leases, owner) {
             return Reply::Refused;
         }
+        drop_holds(&mut self.holds, owner);
         leave(&mut self.owners, owner);
         Reply::Closed
     }
 
     // A blob is put.
     #[tactic(auto, unfolding(crate::specs::Step::put))]
-    fn put(&mut self, digest: &Digest, edges: &Option<Edges>) -> Result<Reply, OutOfMemory>
-        ensures ok { IfOk result (λ reply. (reply, self.new) ≡ put self.old digest.now edges.now) }
+    fn put(
+        &mut self,
+        owner: u64,
+        digest: &Digest,
+        edges: &Option<Edges>,
+    ) -> Result<Reply, OutOfMemory>
+        requires open { is_open self.old owner ≡ true }
+        ensures ok { IfOk result (λ reply. (reply, self.new) ≡ holding owner digest.now (put self.old digest.now edges.now)) }
         ensures err { OnErr result (self.new ≡ self.old) }
     {
         if is_empty_blob(digest) {
             return Ok(Reply::Present);
         }
         match place_of(&self.rows, digest) {
-            Some(place) => Ok(self.put_again(digest, place)),
-            None => self.put_new(digest, edges),
+            Some(place) => self.put_again(owner, digest, place),
+            None => self.put_new(owner, digest, edges),
         }
     }
 
     // The blob has a row, at this place.
-    fn put_again(&mut self, digest: &Digest, place: usize) -> Reply
-        requires { position (is_of digest.now) self.old.rows ≡ Some place }
-        ensures { (edges : Option (List Edge)) → (result, self.new) ≡ put_over self.old digest.now edges (row_of digest.now self.old.rows) }
+    fn put_again(&mut self, owner: u64, digest: &Digest, place: usize) -> Result<Reply, OutOfMemory>
+        requires open { is_open self.old owner ≡ true }
+        requires filled { is_empty digest.now ≡ false }
+        requires there { position (is_of digest.now) self.old.rows ≡ Some place }
+        ensures ok { IfOk result (λ reply. (edges : Option (List Edge)) → (reply, self.new) ≡ holding owner digest.now (put_over self.old digest.now edges (row_of digest.now self.old.rows))) }
+        ensures err { OnErr result (self.new ≡ self.old) }
     {
+        self.hold_used(owner, digest)?;
         let sound = self.rows[place].sound;
         renew(&mut self.rows, digest, place);
-        if sound {
+        Ok(if sound {
             Reply::Present
         } else {
             Reply::Repaired
-        }
+        })
     }
 
     // The blob has no row.
-    fn put_new(&mut self, digest: &Digest, edges: &Option<Edges>) -> Result<Reply, OutOfMemory>
+    fn put_new(
+        &mut self,
+        owner: u64,
+        digest: &Digest,
+        edges: &Option<Edges>,
+    ) -> Result<Reply, OutOfMemory>
+        requires open { is_open self.old owner ≡ true }
         requires new { row_of digest.now self.old.rows ≡ None }
         requires filled { is_empty digest.now ≡ false }
-        ensures ok { IfOk result (λ reply. (reply, self.new) ≡ put_over self.old digest.now edges.now None) }
+        ensures ok { IfOk result (λ reply. (reply, self.new) ≡ holding owner digest.now (put_over self.old digest.now edges.now None)) }
         ensures err { OnErr result (self.new ≡ self.old) }
     {
         let size = digest.size;
@@ -222,10 +246,12 @@ impl Core {
                 high,
             });
         }
+        // All that may fail for memory comes before any row goes.
         let room = self.room(&guards, size)?;
         let row = sound_row(self.alloc, digest, edges)?;
-        // The row is added before any goes, since want of memory must leave all as before.
-        self.rows.push(row)?;
+        self.rows.reserve(1)?;
+        hold_used(self.alloc, self.marks.guard, &mut self.holds, owner, digest)?;
+        self.rows.push_reserved(row);
         let removed = remove(&mut self.rows, &room);
         Ok(Reply::Stored {
             removed,
@@ -238,7 +264,7 @@ impl Core {
         ensures { IfOk result (λ guards. guards.items ≡ guard_marks self.now) }
     {
         let starts = roots(self.alloc, &self.leases)?;
-        reached_rows(self.alloc, &self.rows, &starts)
+        guarded_rows(self.alloc, &self.rows, &starts, &self.holds)
     }
 
     // The digests that go so that `size` more bytes fit: none where they fit, else those of a pass to the lesser of
@@ -275,14 +301,29 @@ impl Core {
     }
 
     // Whether the bytes of a blob can be read.
-    fn read(&mut self, digest: &Digest) -> Reply
-        ensures { (result, self.new) ≡ read self.old digest.now }
+    fn read(&mut self, owner: u64, digest: &Digest) -> Result<Reply, OutOfMemory>
+        requires open { is_open self.old owner ≡ true }
+        ensures ok { IfOk result (λ reply. (reply, self.new) ≡ holding owner digest.now (read self.old digest.now)) }
+        ensures err { OnErr result (self.new ≡ self.old) }
+        ensures free { is_session self.old.guard ≡ false → IsOk result }
     {
         if !is_here(&self.rows, digest) {
-            return Reply::Absent;
+            return Ok(Reply::Absent);
         }
+        self.hold_used(owner, digest)?;
         touch(&mut self.rows, digest);
-        Reply::Found
+        Ok(Reply::Found)
+    }
+
+    // Under the session guard an owner holds what it put or read and is there, unless it is the empty blob.
+    fn hold_used(&mut self, owner: u64, digest: &Digest) -> Result<(), OutOfMemory>
+        requires open { is_open self.old owner ≡ true }
+        requires there { is_empty digest.now ≡ false → has_row self.old.rows digest.now ≡ true }
+        ensures ok { OnOk result (self.new ≡ record self.old { holds = holds_after self.old.guard owner digest.now self.old.holds }) }
+        ensures err { OnErr result (self.new ≡ self.old) }
+        ensures free { is_session self.old.guard ≡ false → IsOk result }
+    {
+        hold_used(self.alloc, self.marks.guard, &mut self.holds, owner, digest)
     }
 
     // An owner that is open takes a lease.

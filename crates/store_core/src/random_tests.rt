@@ -98,10 +98,17 @@ struct Kept {
 
 /// A lease on one blob, as a file or as a Directory.
 #[derive(Clone, Copy, Debug)]
-struct Hold {
+struct Root {
     id: u64,
     owner: u64,
     start: Links,
+}
+
+/// What an owner put or read, under the session guard.
+#[derive(Clone, Copy, Debug)]
+struct Used {
+    owner: u64,
+    blobs: Set,
 }
 
 /// What an owner asks, with the blobs by their numbers.
@@ -161,21 +168,25 @@ impl Ask {
 #[derive(Drop)]
 struct Plain {
     alloc: Global,
+    guard: Guard,
     now: u64,
     kept: [Option<Kept>; BLOBS],
-    holds: Vec<Hold>,
+    leases: Vec<Root>,
+    uses: Vec<Used>,
     next_lease: u64,
     owners: Vec<u64>,
     next_owner: u64,
 }
 
 impl Plain {
-    fn new(alloc: Global) -> Plain {
+    fn new(alloc: Global, guard: Guard) -> Plain {
         Plain {
             alloc,
+            guard,
             now: 0,
             kept: [None; BLOBS],
-            holds: Vec::new(alloc),
+            leases: Vec::new(alloc),
+            uses: Vec::new(alloc),
             next_lease: 1,
             owners: Vec::new(alloc),
             next_owner: 1,
@@ -228,11 +239,27 @@ impl Plain {
 
     fn guarded(&self) -> Set {
         let mut set = 0;
-        for hold in &self.holds {
-            let found = self.reach(hold.start);
+        for lease in &self.leases {
+            let found = self.reach(lease.start);
             set |= found.files | found.dirs;
         }
+        for used in &self.uses {
+            set |= used.blobs;
+        }
         set
+    }
+
+    /// Under the session guard what an owner used stays until it closes.
+    fn note(&mut self, owner: u64, blob: usize, reply: &Reply) -> Result<(), Fail> {
+        let there = matches!(
+            reply,
+            Reply::Stored { .. } | Reply::Present | Reply::Repaired | Reply::Found
+        );
+        if there && self.guard == Guard::Session {
+            let blobs = bit(blob);
+            self.uses.push(Used { owner, blobs })?;
+        }
+        Ok(())
     }
 
     /// Removes the unguarded blob that wasn't used for the longest time, if there is one.
@@ -361,23 +388,23 @@ impl Plain {
                 dirs: 0,
             }
         };
-        self.holds.push(Hold { id, owner, start })?;
+        self.leases.push(Root { id, owner, start })?;
         self.next_lease = id.saturating_add(1);
         Ok(Reply::Leased { lease: id })
     }
 
-    fn own(&self, owner: u64, id: u64) -> Option<Hold> {
-        self.holds
+    fn own(&self, owner: u64, id: u64) -> Option<Root> {
+        self.leases
             .iter()
-            .find(|hold| hold.id == id && hold.owner == owner)
+            .find(|lease| lease.id == id && lease.owner == owner)
             .copied()
     }
 
     fn confirm(&self, owner: u64, id: u64, files: bool) -> Result<Reply, Fail> {
-        let Some(hold) = self.own(owner, id) else {
+        let Some(lease) = self.own(owner, id) else {
             return Ok(Reply::Refused);
         };
-        let found = self.reach(hold.start);
+        let found = self.reach(lease.start);
         for blob in 0..BLOBS {
             let plain = self
                 .kept(blob)
@@ -418,7 +445,7 @@ impl Plain {
         if self.own(owner, id).is_none() {
             return Reply::Refused;
         }
-        self.holds.retain(|hold| hold.id != id);
+        self.leases.retain(|lease| lease.id != id);
         Reply::Released
     }
 
@@ -456,9 +483,10 @@ impl Plain {
     }
 
     fn close(&mut self, owner: u64) -> Reply {
-        if self.holds.iter().any(|hold| hold.owner == owner) {
+        if self.leases.iter().any(|lease| lease.owner == owner) {
             return Reply::Refused;
         }
+        self.uses.retain(|used| used.owner != owner);
         self.owners.retain(|other| *other != owner);
         Reply::Closed
     }
@@ -470,7 +498,7 @@ impl Plain {
         if !self.owners.iter().any(|other| *other == owner) {
             return Ok(Reply::Refused);
         }
-        Ok(match ask {
+        let reply = match ask {
             Ask::Open => Reply::Refused,
             Ask::Put(blob, links) => self.put(blob, links),
             Ask::Find(blobs) => self.find(blobs)?,
@@ -488,7 +516,11 @@ impl Plain {
             }
             Ask::Usage => self.usage(),
             Ask::Close => self.close(owner),
-        })
+        };
+        if let Ask::Put(blob, _) | Ask::Read(blob) = ask {
+            self.note(owner, blob, &reply)?;
+        }
+        Ok(reply)
     }
 
     /// The blob that is used next after this time, and when.
@@ -525,9 +557,9 @@ fn expect_same(rt: &impl Abort, core: &Core, plain: &Plain) -> Result<(), Fail> 
         time = kept.at;
     }
     assert!(rt; plain.used_after(time).is_none());
-    assert_eq!(rt; core.leases().len(), plain.holds.len());
-    for (lease, hold) in core.leases().iter().zip(&plain.holds) {
-        assert_eq!(rt; (lease.id, lease.owner), (hold.id, hold.owner));
+    assert_eq!(rt; core.leases().len(), plain.leases.len());
+    for (lease, root) in core.leases().iter().zip(&plain.leases) {
+        assert_eq!(rt; (lease.id, lease.owner), (root.id, root.owner));
     }
     Ok(())
 }
@@ -605,15 +637,21 @@ fn step_both(
 fn random_histories_follow_the_rules(rt: HostRuntime) -> Result<(), Fail> {
     let alloc = rt.alloc();
     let mut random = Random { seed: 1 };
-    for _ in 0..2000 {
+    for number in 0..2000 {
+        let guard = if number % 2 == 0 {
+            Guard::Leases
+        } else {
+            Guard::Session
+        };
         let mut core = Core::new(
             alloc,
             Marks {
                 low: LOW,
                 high: HIGH,
+                guard,
             },
         );
-        let mut plain = Plain::new(alloc);
+        let mut plain = Plain::new(alloc, guard);
         step_both(&rt, alloc, &mut core, &mut plain, 0, Ask::Open)?;
         for _ in 0..25 {
             let owner = random.below(plain.next_owner).saturating_add(1);

@@ -1,11 +1,13 @@
 //! What roots lead to.
 
-ghost use Rattle.std.specs.Prelude.{◌≡◌, ◌≤◌, ◌++◌, [], false, map, unwrap_or, IfOk};
+ghost use Rattle.std.specs.Prelude.{◌≡◌, ◌≤◌, ◌++◌, ◌||◌, [], map, unwrap_or, IfOk};
 ghost use Rattle.std.specs.List.{list_any};
 ghost use Rattle.store_core.specs.Reach.{as_dir, as_file, blobs, is_dir, is_pair, links_to, is_reached, reached, is_deep};
 ghost use Rattle.store_core.specs.Marks.{near};
+ghost use Rattle.store_core.specs.State.{is_held};
 ghost use Rattle.store_core.specs.Walk.{has_link, leads, first_marks, next_marks, found_marks, marked_edges, some_further};
 
+use crate::holds::{Holder, is_held};
 use crate::order::sort_pairs;
 use crate::state::Row;
 use digest_types::Digest;
@@ -99,20 +101,22 @@ fn next_marks(
     Ok(next)
 }
 
-/// For each row whether its digest is reached within one step more than the marks.
+/// For each row whether its digest is reached within one step more than the marks, or some owner holds it.
 fn found_marks(
     alloc: Global,
     rows: &[Row],
     starts: &[Edge],
     marks: &[bool],
+    holds: &[Holder],
 ) -> Result<Vec<bool>, OutOfMemory>
-    ensures { IfOk result (λ found. found.items ≡ found_marks rows.now starts.now marks.now) }
+    ensures { IfOk result (λ found. found.items ≡ found_marks rows.now starts.now marks.now holds.now) }
 {
     let found = rows
         .iter()
         .map(|row| {
             leads(rows, starts, marks, &as_file(&row.digest))
                 || leads(rows, starts, marks, &as_dir(&row.digest))
+                || is_held(holds, &row.digest)
         })
         .collect(alloc)?;
     Ok(found)
@@ -133,28 +137,32 @@ fn near(alloc: Global, rows: &[Row], starts: &[Edge], steps: u64) -> Result<Vec<
     Ok(marks)
 }
 
-/// No row is marked.
-fn no_marks(alloc: Global, rows: &[Row]) -> Result<Vec<bool>, OutOfMemory>
-    ensures { IfOk result (λ marks. marks.items ≡ map (λ row. false) rows.now) }
+/// For each row whether some owner holds its digest.
+fn held_marks(alloc: Global, rows: &[Row], holds: &[Holder]) -> Result<Vec<bool>, OutOfMemory>
+    ensures { IfOk result (λ marks. marks.items ≡ map (λ row. is_held holds.now row.digest) rows.now) }
 {
-    let marks = rows.iter().map(|_| false).collect(alloc)?;
+    let marks = rows
+        .iter()
+        .map(|row| is_held(holds, &row.digest))
+        .collect(alloc)?;
     Ok(marks)
 }
 
-/// For each row whether a root reaches its digest, as a file or as a Directory.
-pub(crate) fn reached_rows(
+/// For each row whether it is guarded: a root reaches its digest, as a file or as a Directory, or some owner holds it.
+pub(crate) fn guarded_rows(
     alloc: Global,
     rows: &[Row],
     starts: &[Edge],
+    holds: &[Holder],
 ) -> Result<Vec<bool>, OutOfMemory>
-    ensures { IfOk result (λ marks. marks.items ≡ map (λ row. is_reached (blobs rows.now) starts.now row.digest) rows.now) }
+    ensures { IfOk result (λ marks. marks.items ≡ map (λ row. is_reached (blobs rows.now) starts.now row.digest || is_held holds.now row.digest) rows.now) }
 {
     // Without roots there is nothing to walk from.
     if starts.is_empty() {
-        return no_marks(alloc, rows);
+        return held_marks(alloc, rows, holds);
     }
     let marks = near(alloc, rows, starts, rows.len() as u64)?;
-    found_marks(alloc, rows, starts, &marks)
+    found_marks(alloc, rows, starts, &marks, holds)
 }
 
 /// Adds the edges of a blob.

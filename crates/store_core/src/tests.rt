@@ -13,7 +13,8 @@ fn store(alloc: Global, low: u64, high: u64) -> Core
     requires ordered { low ≤ high }
     requires small { high ≤ 1000 }
 {
-    Core::new(alloc, Marks { low, high })
+    let guard = Guard::Leases;
+    Core::new(alloc, Marks { low, high, guard })
 }
 
 fn put(bytes: &[u8]) -> Event
@@ -252,6 +253,51 @@ fn a_pass_leaves_what_a_lease_reaches(rt: HostRuntime) -> Result<(), Fail> {
     run(&rt, rt.alloc(), &mut core, &steps)?;
     expect_rows(&rt, &core, &[b"folder", b"eleven more"]);
     Ok(())
+}
+
+#[test]
+fn what_a_session_put_stays_until_it_closes(rt: HostRuntime) -> Result<(), Fail> {
+    let mut core = Core::new(
+        rt.alloc(),
+        Marks {
+            low: 0,
+            high: 10,
+            guard: Guard::Session,
+        },
+    );
+    let steps = [
+        (0, Event::Open, "Opened { owner: 1 }"),
+        (0, Event::Open, "Opened { owner: 2 }"),
+        (0, Event::Open, "Opened { owner: 3 }"),
+        (1, put(b"first!"), "Stored { removed: 0, used: 6 }"),
+        (3, Event::Pass, "Passed { removed: 0, used: 6 }"),
+        (
+            2,
+            put(b"other"),
+            "NoSpace { guarded: 6, size: 5, high: 10 }",
+        ),
+        (1, Event::Close, "Closed"),
+        (2, put(b"other"), "Stored { removed: 1, used: 5 }"),
+        (
+            3,
+            Event::Usage,
+            "Used { usage: Usage { used: 5, guarded: 5, rows: 1, low: 0, high: 10 } }",
+        ),
+    ];
+    run(&rt, rt.alloc(), &mut core, &steps)?;
+    expect_rows(&rt, &core, &[b"other"]);
+    Ok(())
+}
+
+#[test]
+fn a_pass_takes_what_a_session_put_where_leases_alone_guard(rt: HostRuntime) -> Result<(), Fail> {
+    let mut core = store(rt.alloc(), 0, 10);
+    let steps = [
+        (0, Event::Open, "Opened { owner: 1 }"),
+        (1, put(b"first!"), "Stored { removed: 0, used: 6 }"),
+        (1, Event::Pass, "Passed { removed: 1, used: 0 }"),
+    ];
+    run(&rt, rt.alloc(), &mut core, &steps)
 }
 
 #[test]

@@ -8,7 +8,7 @@ pub returns-clause-within : goal.returns-clause-within
 returns-clause-within c s owner event = (follows_step s owner event).within
 
 pub returns-clause-marks : goal.returns-clause-marks
-returns-clause-marks c s owner event = let f = follows_step s owner event in (f.low, f.high)
+returns-clause-marks c s owner event = let f = follows_step s owner event in (f.low, f.high, f.guard)
 
 pub returns-clause-owners : goal.returns-clause-owners
 returns-clause-owners c s owner event = (follows_step s owner event).owners

@@ -8,5 +8,5 @@ use Rattle.store_core.proofs.machine.Core.close.Goals as goal
 
 pub invariant_of-self : goal.invariant_of-self
 invariant_of-self c =
-    let none = ap (λ (leases : List Lease). list_any (is_of_owner c.args.owner) leases) (sym c.deref.ensures.value) ∙ sym c.holds.ensures ∙ c.if-holds.false in
-    rw c.leave.ensures (record { valid = valid_gone (the_view c.self.inside) c.args.owner none c.self.invariant.valid; within = c.self.invariant.within })
+    let none = ap (λ (leases : List Lease). list_any (is_of_owner c.args.owner) leases) (sym c.deref.ensures.value) ∙ sym c.has_lease.ensures ∙ c.if-has_lease.false in
+    rw (c.leave.ensures, c.drop_holds.ensures) (record { valid = valid_gone (the_view c.self.inside) c.args.owner none c.self.invariant.valid; within = c.self.invariant.within })
