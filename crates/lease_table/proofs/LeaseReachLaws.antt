@@ -1,5 +1,5 @@
 -- The pairs of a lease, counted one after the other.
-use Rattle.std.proofs.Common.{◌≡◌, ◌^◌, min, ℕ, zero, suc, ◌+◌, ◌<◌, ◌≤◌, Bool, true, false, cond, ◌||◌, List, [], ◌∷◌, ◌++◌, length, get_or, take, Some, None, refl, sym, ap, subst, ◌∙◌, inl, inr, arith}
+use Rattle.std.proofs.Common.{◌≡◌, ◌^◌, ◌-◌, min, ℕ, zero, suc, ◌+◌, ◌<◌, ◌≤◌, Bool, true, false, cond, ◌||◌, List, [], ◌∷◌, ◌++◌, length, get_or, take, Some, None, refl, sym, ap, subst, ◌∙◌, inl, inr, arith}
 use Rattle.std.specs.Prelude.{nat_lt, position}
 use Rattle.std.specs.List.{IsDistinct}
 use Rattle.std.proofs.lemmas.Bool.{lt-ltb, ltb-true, cases_lt, false_from_ne_true, or_left, or_right}
@@ -149,8 +149,11 @@ touch_small xs d = by (touches xs d)
     by true = omega arith
     by false = omega arith
 
-pub sum_fits : (n : ℕ) (xs : List Edge) (d : HashAndSize) → n < 2 ^ 63 → n + touch xs d ≤ 2 ^ 63
-sum_fits n xs d h = omega (arith, h, touch_small xs d)
+-- a pair that stands in neither kind leaves the number of its digest small
+pub sum_fits : (n : ℕ) (xs : List Edge) (p : Edge) → has xs p ≡ false → has xs (other_kind p) ≡ false → n < 2 ^ 64 - 1 → n + touch xs p.digest < 2 ^ 64 - 1
+sum_fits n xs p itself other h =
+    let none : touch xs p.digest ≡ 0 = ap (λ (b : Bool). cond b 1 0) (sym (kinds_of xs p) ∙ (λ i. itself i || other i)) in
+    omega (arith, h, none)
 
 -- the first so many, or all where there are fewer
 pub take_least : (xs : List Edge) (n m : ℕ) → m ≡ min (length xs) n → take n xs ≡ take m xs

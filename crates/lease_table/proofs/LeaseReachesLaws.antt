@@ -180,20 +180,24 @@ module _ (rows : List Linked) (kept : List LeaseReach) (i : ℕ) (x : LeaseReach
   here : share x ≡ get_or (shares kept) i (share x)
   here = ap share is ∙ sym (map_at share kept i x)
 
-  -- with what this one counts, they are all
-  pub tallied_apart : IsTallied rows (total_in (shares kept)) counts bytes → IsTallied rows (λ q. of_others q + touch (take x.len x.pairs) q) counts bytes
-  tallied_apart = tallied_same rows (total_in (shares kept)) (λ q. of_others q + touch (take x.len x.pairs) q) counts bytes
-      (λ q. sym (total_of_others (shares kept) i nothing (share x) (share x) q within refl here))
+  with_more : (a b c g : ℕ) → a + b ≡ c → c + g ≡ (a + g) + b
+  with_more a b c g e = omega (arith, e)
+
+  -- with what this one counts, they are all, whatever more is counted
+  pub tallied_apart : (more : HashAndSize → ℕ) → IsTallied rows (λ q. total_in (shares kept) q + more q) counts bytes → IsTallied rows (λ q. (of_others q + more q) + touch (take x.len x.pairs) q) counts bytes
+  tallied_apart more = tallied_same rows (λ q. total_in (shares kept) q + more q) (λ q. (of_others q + more q) + touch (take x.len x.pairs) q) counts bytes
+      (λ q. with_more (of_others q) (touch (take x.len x.pairs) q) (total_in (shares kept) q) (more q) (total_of_others (shares kept) i nothing (share x) (share x) q within refl here))
 
   -- with all pairs of this one, they are all once these are counted
-  pub tallied_whole : (y : LeaseReach) → share y ≡ whole x → IsTallied rows (λ q. of_others q + touch x.pairs q) counts bytes → IsTallied rows (total_in (shares (set kept i y))) counts bytes
-  tallied_whole y e = tallied_same rows (λ q. of_others q + touch x.pairs q) (total_in (shares (set kept i y))) counts bytes
-      (λ q. total_with (shares kept) i nothing (whole x) (share x) q within refl ∙ ap (λ (m : Share). total_in (set (shares kept) i m) q) (sym e) ∙ ap (λ (ms : List Share). total_in ms q) (sym (map_of_set share kept i y)))
+  pub tallied_whole : (more : HashAndSize → ℕ) (y : LeaseReach) → share y ≡ whole x → IsTallied rows (λ q. (of_others q + more q) + touch x.pairs q) counts bytes → IsTallied rows (λ q. total_in (shares (set kept i y)) q + more q) counts bytes
+  tallied_whole more y e = tallied_same rows (λ q. (of_others q + more q) + touch x.pairs q) (λ q. total_in (shares (set kept i y)) q + more q) counts bytes
+      (λ q. sym (with_more (of_others q) (touch x.pairs q) (total_in (shares (set kept i y)) q) (more q)
+      (total_with (shares kept) i nothing (whole x) (share x) q within refl ∙ ap (λ (m : Share). total_in (set (shares kept) i m) q) (sym e) ∙ ap (λ (ms : List Share). total_in ms q) (sym (map_of_set share kept i y)))))
 
   -- and without them once they are not
-  pub tallied_nothing : (y : LeaseReach) → share y ≡ nothing → IsTallied rows of_others counts bytes → IsTallied rows (total_in (shares (set kept i y))) counts bytes
-  tallied_nothing y e = tallied_same rows of_others (total_in (shares (set kept i y))) counts bytes
-      (λ q. ap (λ (m : Share). total_in (set (shares kept) i m) q) (sym e) ∙ ap (λ (ms : List Share). total_in ms q) (sym (map_of_set share kept i y)))
+  pub tallied_nothing : (more : HashAndSize → ℕ) (y : LeaseReach) → share y ≡ nothing → IsTallied rows (λ q. of_others q + more q) counts bytes → IsTallied rows (λ q. total_in (shares (set kept i y)) q + more q) counts bytes
+  tallied_nothing more y e = tallied_same rows (λ q. of_others q + more q) (λ q. total_in (shares (set kept i y)) q + more q) counts bytes
+      (λ q. ap (λ (n : ℕ). n + more q) (ap (λ (m : Share). total_in (set (shares kept) i m) q) (sym e) ∙ ap (λ (ms : List Share). total_in ms q) (sym (map_of_set share kept i y))))
 
 -- ---- leases that go
 

@@ -3,10 +3,12 @@ pub mod TableLaws
 pub mod VictimLaws
 pub mod OrderLaws
 pub mod SlotLaws
+pub mod PassLaws
 pub mod PairKeyLaws
 pub mod PairSetLaws
 pub mod DepthLaws
 pub mod TallyLaws
 pub mod LeaseReachLaws
+pub mod HoldLaws
 pub mod LeaseReachesLaws
 pub mod KeptLaws

@@ -12,7 +12,7 @@ use Rattle.store_core.specs.State.{same, is_among}
 use Rattle.store_core.proofs.Same.{equal_from_same, not_same_from_other, other_from_not_same}
 use Rattle.store_core.proofs.Elements.{every_contains, has_first, has_later}
 use Rattle.store_core.proofs.Guarding.{same_swap}
-use Rattle.lease_table.specs.Table.{Table, is_guarded, unguarded, other_digests, DistinctDigests}
+use Rattle.lease_table.specs.Table.{Table, is_guarded, unguarded, other_digests, from_digest, DistinctDigests}
 use Rattle.lease_table.specs.Slots.{has_digest, live, place_in, IsPlaced}
 use Rattle.lease_table.proofs.OrderLaws.{all_others, distinct_kept, distinct_more, others_differ, apart}
 
@@ -133,7 +133,7 @@ left_by : (b : Bool) (first : HashAndSize) (ds : List HashAndSize) → b ≡ tru
 left_by true first ds e = refl
 left_by false first ds e = absurd cc
 
-not_there : (d : HashAndSize) (ds : List HashAndSize) → AllByRecursion (λ other. other ≢ d) ds → is_among ds d ≡ false
+pub not_there : (d : HashAndSize) (ds : List HashAndSize) → AllByRecursion (λ other. other ≢ d) ds → is_among ds d ≡ false
 not_there d [] h = refl
 not_there d (first ∷ ds) h = rw (not_same_from_other d first (λ q. h.0 (sym q))) (not_there d ds h.1)
 
@@ -176,7 +176,7 @@ length_push : {X : Type 0} (xs : List X) (x : X) → length (xs ++ x ∷ []) ≡
 length_push [] x = refl
 length_push (y ∷ xs) x = ap suc (length_push xs x)
 
-length_set : {X : Type 0} (xs : List X) (i : ℕ) (x : X) → length (set xs i x) ≡ length xs
+pub length_set : {X : Type 0} (xs : List X) (i : ℕ) (x : X) → length (set xs i x) ≡ length xs
 length_set [] i x = refl
 length_set (y ∷ xs) zero x = refl
 length_set (y ∷ xs) (suc i) x = ap suc (length_set xs i x)
@@ -435,7 +435,7 @@ take_nothing : (n : ℕ) → take {A = HashAndSize} n [] ≡ []
 take_nothing zero = refl
 take_nothing (suc n) = refl
 
-none_more : (ds : List HashAndSize) → ds ++ [] ≡ ds
+pub none_more : (ds : List HashAndSize) → ds ++ [] ≡ ds
 none_more [] = refl
 none_more (d ∷ ds) = ap (λ (rest : List HashAndSize). d ∷ rest) (none_more ds)
 
@@ -490,3 +490,110 @@ pub numbered_spare : (slots : List (Option HashAndSize)) (i : ℕ) (d : HashAndS
 numbered_spare slots i d places spare lt e h =
     let fits = subst (λ (n : ℕ). n ≤ spare) (ap length (live_here slots i lt ∙ ap (λ (s : Option HashAndSize). live (s ∷ drop (i + 1) slots)) e)) h.room in
     omega (arith, fits)
+
+-- ---- slots that are empty in front
+
+-- a slot that is emptied
+pub front_set : (slots : List (Option HashAndSize)) (place n : ℕ) → live (take n slots) ≡ [] → live (take n (set slots place None)) ≡ []
+front_set slots place zero e = refl
+front_set [] place (suc n) e = e
+front_set (None ∷ slots) zero (suc n) e = e
+front_set (Some d ∷ slots) zero (suc n) e = absurd cc
+front_set (None ∷ slots) (suc place) (suc n) e = front_set slots place n e
+front_set (Some d ∷ slots) (suc place) (suc n) e = absurd cc
+
+-- slots behind
+pub front_push : (slots more : List (Option HashAndSize)) (n : ℕ) → n ≤ length slots → live (take n slots) ≡ [] → live (take n (slots ++ more)) ≡ []
+front_push slots more zero le e = refl
+front_push [] more (suc n) le e = absurd (omega arith)
+front_push (None ∷ slots) more (suc n) le e = front_push slots more n (omega arith) e
+front_push (Some d ∷ slots) more (suc n) le e = absurd cc
+
+-- one more
+pub front_more : (slots : List (Option HashAndSize)) (i : ℕ) → i < length slots → get_or slots i None ≡ None → live (take i slots) ≡ [] → live (take (i + 1) slots) ≡ []
+front_more slots i lt e h =
+    ap live (take_more slots i None lt ∙ ap (λ (s : Option HashAndSize). take i slots ++ s ∷ []) e)
+    ∙ live_both (take i slots) (None ∷ []) ∙ ap (λ (ds : List HashAndSize). ds ++ []) h
+
+-- the digests are those of the slots behind
+pub front_dropped : (slots : List (Option HashAndSize)) (n : ℕ) → live (take n slots) ≡ [] → live (drop n slots) ≡ live slots
+front_dropped slots zero e = refl
+front_dropped [] (suc n) e = refl
+front_dropped (None ∷ slots) (suc n) e = front_dropped slots n e
+front_dropped (Some d ∷ slots) (suc n) e = absurd cc
+
+-- ---- the digests from one on
+
+under : (o : Option ℕ) (place : ℕ) → option_map suc o ≡ Some place → (q : ℕ) × (o ≡ Some q) × (suc q ≡ place)
+under None place e = absurd cc
+under (Some q) place e = (q, refl, same_Some (suc q) place e)
+
+-- what a place says of the digests from one on
+pub record IsFrom (d : HashAndSize) (slots : List (Option HashAndSize)) (place : ℕ) : Type 0 where
+  pub within : place < length slots
+  pub from : live (drop place slots) ≡ from_digest d (live slots)
+  pub next : slice_get (live (drop (suc place) slots)) 0 ≡ slice_get (from_digest d (live slots)) 1
+
+from_later : (d : HashAndSize) (slot : Option HashAndSize) (rest : List (Option HashAndSize)) (q : ℕ) → from_digest d (live (slot ∷ rest)) ≡ from_digest d (live rest) → IsFrom d rest q → IsFrom d (slot ∷ rest) (suc q)
+from_later d slot rest q e h = record {
+  within = let lt = h.within in omega (arith, lt);
+  from = h.from ∙ sym e;
+  next = h.next ∙ ap (λ (ds : List HashAndSize). slice_get ds 1) (sym e);
+}
+
+from_rest : (d : HashAndSize) (slot : Option HashAndSize) (rest : List (Option HashAndSize)) (place : ℕ) → from_digest d (live (slot ∷ rest)) ≡ from_digest d (live rest) → ((q : ℕ) → place_in d rest ≡ Some q → IsFrom d rest q)
+    → option_map suc (place_in d rest) ≡ Some place → IsFrom d (slot ∷ rest) place
+from_rest d slot rest place e h is =
+    let u = under (place_in d rest) place is in
+    subst (IsFrom d (slot ∷ rest)) u.2 (from_later d slot rest u.0 e (h u.0 u.1))
+
+from_here : (b : Bool) (first : HashAndSize) (ds more : List HashAndSize) → b ≡ true → cond b (first ∷ ds) more ≡ first ∷ ds
+from_here true first ds more e = refl
+from_here false first ds more e = absurd cc
+
+from_there : (b : Bool) (ds more : List HashAndSize) → b ≡ false → cond b ds more ≡ more
+from_there true ds more e = absurd cc
+from_there false ds more e = refl
+
+from_some : (d first : HashAndSize) (rest : List (Option HashAndSize)) (place : ℕ) (b : Bool) → same d first ≡ b → ((q : ℕ) → place_in d rest ≡ Some q → IsFrom d rest q)
+    → cond b (Some 0) (option_map suc (place_in d rest)) ≡ Some place → IsFrom d (Some first ∷ rest) place
+from_some d first rest place true t h is =
+    let here = from_here (same d first) first (live rest) (from_digest d (live rest)) t in
+    subst (IsFrom d (Some first ∷ rest)) (same_Some 0 place is)
+    (record {
+      within = omega arith;
+      from = sym here;
+      next = ap (λ (ds : List HashAndSize). slice_get ds 1) (sym here);
+    })
+from_some d first rest place false t h is =
+    from_rest d (Some first) rest place (from_there (same d first) (first ∷ live rest) (from_digest d (live rest)) t) h is
+
+-- a digest's place
+pub from_place : (d : HashAndSize) (slots : List (Option HashAndSize)) (place : ℕ) → place_in d slots ≡ Some place → IsFrom d slots place
+from_place d [] place e = absurd cc
+from_place d (None ∷ rest) place e = from_rest d None rest place refl (from_place d rest) e
+from_place d (Some first ∷ rest) place e = from_some d first rest place (same d first) refl (from_place d rest) e
+
+-- and where it has none
+pub from_none : (d : HashAndSize) (ds : List HashAndSize) → is_among ds d ≡ false → from_digest d ds ≡ []
+from_none d [] e = refl
+from_none d (first ∷ ds) e =
+    let h = or_parts (same d first) (is_among ds d) e in
+    from_there (same d first) (first ∷ ds) (from_digest d ds) h.0 ∙ from_none d ds h.1
+
+-- ---- the digests one after the other
+
+live_at : (slots : List (Option HashAndSize)) (i : ℕ) (slot : Option HashAndSize) → i < length slots → slot ≡ get_or slots i slot → live (drop i slots) ≡ live (slot ∷ drop (i + 1) slots)
+live_at slots i slot lt is = live_here slots i lt ∙ ap (λ (s : Option HashAndSize). live (s ∷ drop (i + 1) slots)) (at_default slots i slot lt ∙ sym is)
+
+-- at a slot that isn't empty
+pub live_some : (slots : List (Option HashAndSize)) (i : ℕ) (slot : Option HashAndSize) (d : HashAndSize) → i < length slots → slot ≡ get_or slots i slot → slot ≡ Some d → live (drop i slots) ≡ d ∷ live (drop (i + 1) slots)
+live_some slots i slot d lt is e = live_at slots i slot lt is ∙ ap (λ (s : Option HashAndSize). live (s ∷ drop (i + 1) slots)) e
+
+-- and at one that is
+pub live_skip : (slots : List (Option HashAndSize)) (i : ℕ) (slot : Option HashAndSize) → i < length slots → slot ≡ get_or slots i slot → slot ≡ None → live (drop i slots) ≡ live (drop (i + 1) slots)
+live_skip slots i slot lt is e = live_at slots i slot lt is ∙ ap (λ (s : Option HashAndSize). live (s ∷ drop (i + 1) slots)) e
+
+-- their end
+pub live_done : (slots : List (Option HashAndSize)) (i : ℕ) → length slots ≤ i → live (drop i slots) ≡ []
+live_done slots i le = at_drop_all live slots i le

@@ -4,4 +4,5 @@ pub mod Rows
 pub mod Pairs
 pub mod PairKeys
 pub mod Tallies
+pub mod Holds
 pub mod LeaseReaches

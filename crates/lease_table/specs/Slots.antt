@@ -1,5 +1,5 @@
 -- How the order of use is kept: slots one after the other, of which some are empty, and the place of each digest.
-use Rattle.std.specs.Prelude.{◌≡◌, ℕ, suc, Bool, false, List, [], ◌∷◌, length, Option, Some, None, if◌then◌else◌}
+use Rattle.std.specs.Prelude.{◌≡◌, ◌≤◌, ◌*◌, take, ℕ, suc, Bool, false, List, [], ◌∷◌, length, Option, Some, None, if◌then◌else◌}
 use Rattle.std.specs.Option.{option_map}
 use Rattle.std.specs.Map.{lookup}
 use Rattle.digest_types.specs.Name.{HashAndSize}
@@ -27,3 +27,11 @@ pub record IsPlaced (slots : List (Option HashAndSize)) (places : List (HashAndS
   pub distinct : DistinctDigests (live slots)
   pub placed : (d : HashAndSize) → lookup (same d) places ≡ place_in d slots
   pub count : length places ≡ length (live slots)
+
+-- The map goes with the slots, there is room for twice as many slots as digests, and those before the first so many are
+-- empty.
+pub record IsSlotted (slots : List (Option HashAndSize)) (most start : ℕ) (places : List (HashAndSize × ℕ)) : Type 0 where
+  pub placed : IsPlaced slots places
+  pub room : 2 * length (live slots) ≤ most
+  pub within : start ≤ length slots
+  pub front : live (take start slots) ≡ []

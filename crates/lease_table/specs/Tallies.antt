@@ -1,4 +1,4 @@
--- How many leases reach each digest, and how many bytes are guarded by that.
+-- How many leases and owners guard each digest, and how many bytes are guarded by that.
 use Rattle.std.specs.Prelude.{◌≡◌, ◌+◌, ℕ, Bool, List, [], ◌∷◌, nat_lt, unwrap_or, if◌then◌else◌}
 use Rattle.std.specs.List.{list_any}
 use Rattle.std.specs.Map.{lookup}

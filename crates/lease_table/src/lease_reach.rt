@@ -50,7 +50,7 @@ pub(crate) fn count_pairs(rows: &Index, tally: &mut Tally, reach: &mut LeaseReac
     requires { length reach.old.pairs - reach.old.len ≤ spare tally.old.counts }
     ensures reach { reach.new ≡ record reach.old { len = length reach.old.pairs } }
     ensures spare { spare tally.old.counts ≤ spare tally.new.counts + (length reach.old.pairs - reach.old.len) }
-    ensures tallied { (f : HashAndSize → ℕ) → ((d : HashAndSize) → f d < 2 ^ 63) → sizes rows.now ≤ 2 ^ 62 → IsTallied rows.now (λ d. f d + touch (take reach.old.len reach.old.pairs) d) tally.old.counts.entries tally.old.bytes → IsTallied rows.now (λ d. f d + touch reach.old.pairs d) tally.new.counts.entries tally.new.bytes }
+    ensures tallied { (f : HashAndSize → ℕ) → ((d : HashAndSize) → f d < 2 ^ 64 - 1) → sizes rows.now ≤ 2 ^ 62 → IsTallied rows.now (λ d. f d + touch (take reach.old.len reach.old.pairs) d) tally.old.counts.entries tally.old.bytes → IsTallied rows.now (λ d. f d + touch reach.old.pairs d) tally.new.counts.entries tally.new.bytes }
 {
     let len = reach.pairs.len();
     'pairs: for at in reach.len..len {

@@ -4,6 +4,7 @@ ghost use Rattle.std.specs.Prelude.{◌≡◌, ◌+◌, ◌-◌, ◌<◌, ◌≤
 ghost use Rattle.std.specs.Vec.{vec_len, vec_capacity};
 ghost use Rattle.std.specs.Option.{option_copied};
 ghost use Rattle.indexmap.specs.IndexMap.{spare};
+ghost use Rattle.digest_types.specs.Name.{HashAndSize};
 ghost use Rattle.lease_table.specs.Table.{sizes, has_id, roots, without, others};
 ghost use Rattle.store_core.specs.Reach.{as_dir};
 ghost use Rattle.lease_table.specs.Tallies.{count_in, IsTallied};
@@ -69,7 +70,7 @@ fn grow(
 }
 
 /// Takes back what isn't counted. It takes no memory.
-fn cut(kept: &mut Vec<LeaseReach>)
+pub(crate) fn cut(kept: &mut Vec<LeaseReach>)
     ensures same { shares kept.new.items ≡ shares kept.old.items }
     ensures full { AreFull kept.new.items }
 {
@@ -95,10 +96,10 @@ fn uncounted(kept: &[LeaseReach]) -> Option<usize>
 fn count_all(rows: &Index, tally: &mut Tally, kept: &mut Vec<LeaseReach>)
     requires room { uncounted kept.old.items ≤ spare tally.old.counts }
     requires small { sizes rows.now ≤ 2 ^ 62 }
-    requires tallied { IsTallied rows.now (total_in (shares kept.old.items)) tally.old.counts.entries tally.old.bytes }
     ensures wholes { shares kept.new.items ≡ wholes kept.old.items }
     ensures full { AreFull kept.new.items }
-    ensures tallied { IsTallied rows.now (total_in (shares kept.new.items)) tally.new.counts.entries tally.new.bytes }
+    ensures spare { spare tally.old.counts ≤ spare tally.new.counts + uncounted kept.old.items }
+    ensures tallied { (others : HashAndSize → ℕ) → ((d : HashAndSize) → others d < 2 ^ 63) → IsTallied rows.now (λ d. total_in (shares kept.old.items) d + others d) tally.old.counts.entries tally.old.bytes → IsTallied rows.now (λ d. total_in (shares kept.new.items) d + others d) tally.new.counts.entries tally.new.bytes }
 {
     'kept: for i in 0..kept.len() {
         count_pairs(rows, tally, &mut kept[i]);
@@ -110,10 +111,10 @@ pub(crate) fn count_grown(rows: &Index, tally: &mut Tally, kept: &mut Vec<LeaseR
     requires still { grown ≡ false → AreFull kept.old.items }
     requires room { uncounted kept.old.items ≤ spare tally.old.counts }
     requires small { sizes rows.now ≤ 2 ^ 62 }
-    requires tallied { IsTallied rows.now (total_in (shares kept.old.items)) tally.old.counts.entries tally.old.bytes }
     ensures wholes { shares kept.new.items ≡ wholes kept.old.items }
     ensures full { AreFull kept.new.items }
-    ensures tallied { IsTallied rows.now (total_in (shares kept.new.items)) tally.new.counts.entries tally.new.bytes }
+    ensures spare { spare tally.old.counts ≤ spare tally.new.counts + uncounted kept.old.items }
+    ensures tallied { (others : HashAndSize → ℕ) → ((d : HashAndSize) → others d < 2 ^ 63) → IsTallied rows.now (λ d. total_in (shares kept.old.items) d + others d) tally.old.counts.entries tally.old.bytes → IsTallied rows.now (λ d. total_in (shares kept.new.items) d + others d) tally.new.counts.entries tally.new.bytes }
 {
     if grown {
         count_all(rows, tally, kept);
@@ -123,9 +124,8 @@ pub(crate) fn count_grown(rows: &Index, tally: &mut Tally, kept: &mut Vec<LeaseR
 /// Gives up the leases with this number. It takes no memory.
 pub(crate) fn release(rows: &Index, tally: &mut Tally, kept: &mut Vec<LeaseReach>, id: u64)
     requires small { sizes rows.now ≤ 2 ^ 62 }
-    requires tallied { IsTallied rows.now (total_in (shares kept.old.items)) tally.old.counts.entries tally.old.bytes }
     ensures left { kept.new.items ≡ filter (λ reach. not (has_id id reach.lease)) kept.old.items }
-    ensures tallied { IsTallied rows.now (total_in (shares kept.new.items)) tally.new.counts.entries tally.new.bytes }
+    ensures tallied { (others : HashAndSize → ℕ) → IsTallied rows.now (λ d. total_in (shares kept.old.items) d + others d) tally.old.counts.entries tally.old.bytes → IsTallied rows.now (λ d. total_in (shares kept.new.items) d + others d) tally.new.counts.entries tally.new.bytes }
 {
     'kept: for i in 0..kept.len() {
         if kept[i].lease.id == id {
@@ -165,13 +165,26 @@ fn grow_by(
     }
 }
 
-/// Makes room for the counts of all pairs that aren't counted.
-fn reserve(tally: &mut Tally, kept: &[LeaseReach]) -> Result<(), OutOfMemory>
+/// How many counts may be new: one for each pair that isn't counted, and one for a hold.
+fn more_counts(kept: &[LeaseReach], grown: bool) -> Option<usize>
+    requires still { grown ≡ false → AreFull kept.now }
+    ensures { IfSome result (λ n. n ≡ uncounted kept.now + 1) }
+{
+    if grown {
+        uncounted(kept)?.checked_add(1)
+    } else {
+        Some(1)
+    }
+}
+
+/// Makes room for the counts of all pairs that aren't counted, and for that of a hold.
+fn reserve(tally: &mut Tally, kept: &[LeaseReach], grown: bool) -> Result<(), OutOfMemory>
+    requires still { grown ≡ false → AreFull kept.now }
     ensures counts { tally.new.counts.entries ≡ tally.old.counts.entries }
     ensures bytes { tally.new.bytes ≡ tally.old.bytes }
-    ensures ok { OnOk result (uncounted kept.now ≤ spare tally.new.counts) }
+    ensures ok { OnOk result (uncounted kept.now < spare tally.new.counts) }
 {
-    match uncounted(kept) {
+    match more_counts(kept, grown) {
         Some(more) => tally.reserve(more),
         None => Err(OutOfMemory::from(AllocError)),
     }
@@ -188,17 +201,16 @@ pub(crate) fn take_up(
     requires room { length reach.pairs ≤ spare tally.old.counts }
     requires place { vec_len kept.old < vec_capacity kept.old }
     requires small { sizes rows.now ≤ 2 ^ 62 }
-    requires tallied { IsTallied rows.now (total_in (shares kept.old.items)) tally.old.counts.entries tally.old.bytes }
     ensures kept { kept.new.items ≡ kept.old.items ++ record reach { len = length reach.pairs } ∷ [] }
-    ensures tallied { IsTallied rows.now (total_in (shares kept.new.items)) tally.new.counts.entries tally.new.bytes }
+    ensures tallied { (others : HashAndSize → ℕ) → ((d : HashAndSize) → others d < 2 ^ 63) → IsTallied rows.now (λ d. total_in (shares kept.old.items) d + others d) tally.old.counts.entries tally.old.bytes → IsTallied rows.now (λ d. total_in (shares kept.new.items) d + others d) tally.new.counts.entries tally.new.bytes }
 {
     let mut reach = reach;
     count_pairs(rows, tally, &mut reach);
     kept.push_reserved(reach);
 }
 
-/// Adds to the leases what they reach by the last row, among the rows but those that go, makes room for its counts, and
-/// answers whether that may be something. After want of memory all is as before.
+/// Adds to the leases what they reach by the last row, among the rows but those that go, makes room for its counts and
+/// for that of a hold, and answers whether that may be something. After want of memory all is as before.
 pub(crate) fn prepare(
     rows: &Index,
     gone: &[Digest],
@@ -215,20 +227,18 @@ pub(crate) fn prepare(
     ensures bytes { tally.new.bytes ≡ tally.old.bytes }
     ensures same { shares kept.new.items ≡ shares kept.old.items }
     ensures reached { OnOk result (AreReached (without gone.now rows.now) (wholes kept.new.items)) }
-    ensures room { OnOk result (uncounted kept.new.items ≤ spare tally.new.counts) }
+    ensures room { OnOk result (uncounted kept.new.items < spare tally.new.counts) }
     ensures still { IfOk result (λ grown. grown ≡ false → AreFull kept.new.items) }
     ensures full { OnErr result (AreFull kept.new.items) }
 {
     match grow_by(rows, gone, tally, kept, digest, edges) {
-        Ok(true) => {}
-        Ok(false) => return Ok(false),
-        Err(e) => {
-            cut(kept);
-            return Err(e);
-        }
-    }
-    match reserve(tally, kept) {
-        Ok(()) => Ok(true),
+        Ok(grown) => match reserve(tally, kept, grown) {
+            Ok(()) => Ok(grown),
+            Err(e) => {
+                cut(kept);
+                Err(e)
+            }
+        },
         Err(e) => {
             cut(kept);
             Err(e)

@@ -1,8 +1,10 @@
-//! The leases of the store and what they guard, and the order in which blobs were used. It is told of each row and each
-//! lease, and holds no bodies. What a change costs goes by what it changes: a row by itself, a lease by what it reaches.
+//! The leases of the store, what owners hold, what both guard, and the order in which blobs were used. It is told of each
+//! row, lease and hold, and has no bodies. What a change costs goes by what it changes: a row by itself, a lease by what it
+//! reaches.
 #![tactic(auto)]
 
 mod depth;
+mod holder;
 mod index;
 mod lease_reach;
 mod lease_reaches;

@@ -1,10 +1,11 @@
 //! Digests in an order, in slots: a digest that leaves its slot leaves it empty.
 
-ghost use Rattle.std.specs.Prelude.{◌≡◌, ◌+◌, ◌*◌, ◌<◌, ◌≤◌, ◌∷◌, ◌++◌, [], length, true, false, OnOk, OnErr};
+ghost use Rattle.std.specs.Prelude.{◌≡◌, ◌+◌, ◌*◌, ◌<◌, ◌≤◌, ◌∷◌, ◌++◌, [], length, take, drop, slice_get, ℕ, true, false, OnOk, OnErr};
 ghost use Rattle.std.specs.Vec.{vec_capacity};
 ghost use Rattle.indexmap.specs.IndexMap.{spare};
 ghost use Rattle.store_core.specs.State.{is_among};
-ghost use Rattle.lease_table.specs.Table.{other_digests, DistinctDigests};
+ghost use Rattle.digest_types.specs.Name.{HashAndSize};
+ghost use Rattle.lease_table.specs.Table.{other_digests, from_on, behind, DistinctDigests};
 ghost use Rattle.lease_table.specs.Slots.{live, IsPlaced};
 
 use digest_types::Digest;
@@ -19,21 +20,23 @@ use std::marker::Model;
 #[derive(Debug, Drop)]
 pub(crate) struct Slots {
     slots: Vec<Option<Digest>>,
+    /// How many slots in front are empty.
+    start: usize,
     /// The slot of each digest.
     places: IndexMap<Digest, usize>,
 }
 
 impl Model for Slots {
-    ghost use Rattle.std.specs.Prelude.{List, ◌≤◌, ◌*◌, length};
+    ghost use Rattle.std.specs.Prelude.{List};
     ghost use Rattle.std.specs.Vec.{vec_capacity};
     ghost use Rattle.digest_types.specs.Name.{HashAndSize};
-    ghost use Rattle.lease_table.specs.Slots.{live, IsPlaced};
+    ghost use Rattle.lease_table.specs.Slots.{live, IsSlotted};
 
     ghost Value = { List HashAndSize };
 
     ghost view = { λ a. live a.slots.items };
 
-    ghost invariant = { λ a. IsPlaced a.slots.items a.places.entries × (2 * length (live a.slots.items) ≤ vec_capacity a.slots) };
+    ghost invariant = { λ a. IsSlotted a.slots.items (vec_capacity a.slots) a.start a.places.entries };
 }
 
 impl Slots {
@@ -43,6 +46,7 @@ impl Slots {
     {
         Slots {
             slots: Vec::new(alloc),
+            start: 0,
             places: IndexMap::new(alloc),
         }
     }
@@ -52,8 +56,9 @@ impl Slots {
         requires { is_among self.old digest.now ≡ true }
         ensures { self.new ≡ other_digests digest.now self.old ++ digest.now ∷ [] }
     {
-        make_room(&mut self.slots, &mut self.places);
+        make_room(&mut self.slots, &mut self.start, &mut self.places);
         move_last(&mut self.slots, &mut self.places, digest);
+        self.start = first_full(&self.slots, self.start);
     }
 
     /// Takes a digest out, if it is among them.
@@ -61,6 +66,7 @@ impl Slots {
         ensures { self.new ≡ other_digests digest.now self.old }
     {
         remove_at(&mut self.slots, &mut self.places, digest);
+        self.start = first_full(&self.slots, self.start);
     }
 
     /// Adds a digest as the last one. After want of memory all is as before.
@@ -70,7 +76,7 @@ impl Slots {
         ensures err { OnErr result (self.new ≡ self.old) }
     {
         grow(&mut self.slots, self.places.len())?;
-        make_room(&mut self.slots, &mut self.places);
+        make_room(&mut self.slots, &mut self.start, &mut self.places);
         self.places.reserve(1)?;
         push(&mut self.slots, &mut self.places, digest);
         Ok(())
@@ -90,12 +96,64 @@ impl Slots {
         self.places.contains_key(digest)
     }
 
-    /// The slots, of which some may be empty.
-    pub(crate) fn as_slice(&self) -> &[Option<Digest>]
-        ensures { live result.now ≡ self.now }
+    /// The slots, of which some may be empty: those from a digest on, or where none is named, all.
+    pub(crate) fn from_on(&self, from: Option<Digest>) -> &[Option<Digest>]
+        ensures { live result.now ≡ from_on from self.now }
     {
-        self.slots.as_slice()
+        match from {
+            None => rest(&self.slots, self.start),
+            Some(digest) => match self.places.get(&digest) {
+                Some(place) => rest(&self.slots, *place),
+                None => &[],
+            },
+        }
     }
+
+    /// The digest right behind another.
+    pub(crate) fn behind(&self, digest: &Digest) -> Option<Digest>
+        ensures behind { result ≡ behind digest.now self.now }
+        ensures distinct { DistinctDigests self.now }
+    {
+        match self.places.get(digest) {
+            Some(place) => first_of(rest(&self.slots, *place + 1)),
+            None => None,
+        }
+    }
+}
+
+/// The slots from a place on.
+fn rest(slots: &[Option<Digest>], place: usize) -> &[Option<Digest>]
+    requires { place ≤ length slots.now }
+    ensures { result.now ≡ drop place slots.now }
+{
+    &slots[place..]
+}
+
+/// The digest of the first slot that isn't empty.
+fn first_of(slots: &[Option<Digest>]) -> Option<Digest>
+    ensures { result ≡ slice_get (live slots.now) 0 }
+{
+    'slots: for slot in slots {
+        if let Some(digest) = slot {
+            return Some(*digest);
+        }
+    }
+    None
+}
+
+/// How many slots in front are empty, where so many are.
+fn first_full(slots: &[Option<Digest>], start: usize) -> usize
+    requires within { start ≤ length slots.now }
+    requires front { live (take start slots.now) ≡ [] }
+    ensures within { result ≤ length slots.now }
+    ensures front { live (take result slots.now) ≡ [] }
+{
+    'slots: for place in start..slots.len() {
+        if slots[place].is_some() {
+            return place;
+        }
+    }
+    slots.len()
 }
 
 /// Sees that there may be twice as many slots as one more than so many digests.
@@ -139,9 +197,17 @@ fn number(slots: &[Option<Digest>], places: &mut IndexMap<Digest, usize>)
 }
 
 /// Sees that a slot is free at the end, where there are at least twice as many as digests. It takes no memory.
-fn make_room(slots: &mut Vec<Option<Digest>>, places: &mut IndexMap<Digest, usize>)
+fn make_room(
+    slots: &mut Vec<Option<Digest>>,
+    start: &mut usize,
+    places: &mut IndexMap<Digest, usize>,
+)
     requires placed { IsPlaced slots.old.items places.old.entries }
+    requires within { start.old ≤ length slots.old.items }
+    requires front { live (take start.old slots.old.items) ≡ [] }
     ensures placed { IsPlaced slots.new.items places.new.entries }
+    ensures within { start.new ≤ length slots.new.items }
+    ensures front { live (take start.new slots.new.items) ≡ [] }
     ensures live { live slots.new.items ≡ live slots.old.items }
     ensures capacity { vec_capacity slots.new ≡ vec_capacity slots.old }
     ensures room { length (live slots.old.items) < vec_capacity slots.old → length slots.new.items < vec_capacity slots.new }
@@ -151,6 +217,7 @@ fn make_room(slots: &mut Vec<Option<Digest>>, places: &mut IndexMap<Digest, usiz
     }
     pack(slots);
     number(slots, places);
+    *start = 0;
 }
 
 /// Moves a digest to a slot at the end.
@@ -160,6 +227,8 @@ fn move_last(slots: &mut Vec<Option<Digest>>, places: &mut IndexMap<Digest, usiz
     requires room { length slots.old.items < vec_capacity slots.old }
     ensures placed { IsPlaced slots.new.items places.new.entries }
     ensures live { live slots.new.items ≡ other_digests digest.now (live slots.old.items) ++ digest.now ∷ [] }
+    ensures front { (n : ℕ) → n ≤ length slots.old.items → live (take n slots.old.items) ≡ [] → live (take n slots.new.items) ≡ [] }
+    ensures longer { length slots.old.items ≤ length slots.new.items }
     ensures capacity { vec_capacity slots.new ≡ vec_capacity slots.old }
 {
     let last = slots.len();
@@ -181,6 +250,8 @@ fn push(slots: &mut Vec<Option<Digest>>, places: &mut IndexMap<Digest, usize>, d
     requires spare { 0 < spare places.old }
     ensures placed { IsPlaced slots.new.items places.new.entries }
     ensures live { live slots.new.items ≡ live slots.old.items ++ digest ∷ [] }
+    ensures front { (n : ℕ) → n ≤ length slots.old.items → live (take n slots.old.items) ≡ [] → live (take n slots.new.items) ≡ [] }
+    ensures longer { length slots.old.items ≤ length slots.new.items }
     ensures capacity { vec_capacity slots.new ≡ vec_capacity slots.old }
 {
     let last = slots.len();
@@ -195,6 +266,8 @@ fn remove_at(slots: &mut Vec<Option<Digest>>, places: &mut IndexMap<Digest, usiz
     requires placed { IsPlaced slots.old.items places.old.entries }
     ensures placed { IsPlaced slots.new.items places.new.entries }
     ensures live { live slots.new.items ≡ other_digests digest.now (live slots.old.items) }
+    ensures front { (n : ℕ) → n ≤ length slots.old.items → live (take n slots.old.items) ≡ [] → live (take n slots.new.items) ≡ [] }
+    ensures longer { length slots.old.items ≤ length slots.new.items }
     ensures capacity { vec_capacity slots.new ≡ vec_capacity slots.old }
 {
     if let Some(place) = places.swap_remove(digest) {

@@ -1,6 +1,6 @@
 //! `Tally`.
 
-ghost use Rattle.std.specs.Prelude.{◌≡◌, ◌+◌, ◌<◌, ◌≤◌, ◌^◌, ◌&&◌, ℕ, [], nat_lt, true, false, if◌then◌else◌, OnOk};
+ghost use Rattle.std.specs.Prelude.{◌≡◌, ◌+◌, ◌-◌, ◌<◌, ◌≤◌, ◌^◌, ◌&&◌, ℕ, [], nat_lt, true, false, if◌then◌else◌, OnOk};
 ghost use Rattle.indexmap.specs.IndexMap.{spare};
 ghost use Rattle.digest_types.specs.Name.{HashAndSize};
 ghost use Rattle.std.specs.List.{list_any};
@@ -14,7 +14,7 @@ use indexmap::IndexMap;
 use proto_wire::OutOfMemory;
 use std::alloc::Global;
 
-/// For each digest how many leases reach it, and how many bytes the rows have that some lease reaches.
+/// For each digest how many leases reach it and how many owners hold it, and how many bytes the rows have that are guarded so.
 #[derive(Debug, Drop)]
 pub(crate) struct Tally {
     counts: IndexMap<Digest, u64>,
@@ -33,14 +33,14 @@ impl Tally {
         }
     }
 
-    /// How many leases reach a digest: a look-up.
+    /// How many leases and owners guard a digest: a look-up.
     pub(crate) fn count(&self, digest: &Digest) -> u64
         ensures { result ≡ count_in self.now.counts.entries digest.now }
     {
         self.counts.get(digest).copied().unwrap_or(0)
     }
 
-    /// How many bytes the rows have that some lease reaches.
+    /// How many bytes the guarded rows have.
     pub(crate) fn bytes(&self) -> u64
         ensures { result ≡ self.now.bytes }
     {
@@ -57,7 +57,7 @@ impl Tally {
         Ok(())
     }
 
-    /// Counts the bytes of a new row, if some lease reaches it.
+    /// Counts the bytes of a new row, if it is guarded.
     pub(crate) fn add_row(&mut self, digest: &Digest)
         ensures counts { self.new.counts ≡ self.old.counts }
         ensures bytes { self.old.bytes ≤ 2 ^ 62 → self.new.bytes ≡ self.old.bytes + (if nat_lt 0 (count_in self.old.counts.entries digest.now) then digest.now.size else 0) }
@@ -67,11 +67,11 @@ impl Tally {
         }
     }
 
-    /// Counts one more lease for a digest. It takes no memory.
+    /// Counts one more for a digest. It takes no memory.
     pub(crate) fn add(&mut self, rows: &Index, digest: &Digest)
         requires { 0 < spare self.old.counts }
         ensures spare { spare self.old.counts ≤ spare self.new.counts + 1 }
-        ensures tallied { (f : HashAndSize → ℕ) → f digest.now ≤ 2 ^ 63 → sizes rows.now ≤ 2 ^ 62 → IsTallied rows.now f self.old.counts.entries self.old.bytes → IsTallied rows.now (λ d. f d + one_at digest.now d) self.new.counts.entries self.new.bytes }
+        ensures tallied { (f : HashAndSize → ℕ) → f digest.now < 2 ^ 64 - 1 → sizes rows.now ≤ 2 ^ 62 → IsTallied rows.now f self.old.counts.entries self.old.bytes → IsTallied rows.now (λ d. f d + one_at digest.now d) self.new.counts.entries self.new.bytes }
     {
         let count = self.count(digest);
         let gained = bytes_where(rows, digest, count == 0);
@@ -82,7 +82,7 @@ impl Tally {
         }
     }
 
-    /// Counts one lease less for a digest. It takes no memory.
+    /// Counts one less for a digest. It takes no memory.
     pub(crate) fn take(&mut self, rows: &Index, digest: &Digest)
         ensures tallied { (f : HashAndSize → ℕ) → sizes rows.now ≤ 2 ^ 62 → IsTallied rows.now (λ d. f d + one_at digest.now d) self.old.counts.entries self.old.bytes → IsTallied rows.now f self.new.counts.entries self.new.bytes }
     {

@@ -37,7 +37,6 @@ fn order(alloc: Global) -> Result<UseOrder, OutOfMemory> {
 #[test]
 fn what_is_used_goes_last(rt: HostRuntime) -> Result<(), Fail> {
     let mut order = order(rt.alloc())?;
-    let none = LeaseTable::new(rt.alloc());
     // So many uses take all slots more than once.
     for time in 0..100 {
         let digest = digest(1 + time % 2);
@@ -48,6 +47,20 @@ fn what_is_used_goes_last(rt: HostRuntime) -> Result<(), Fail> {
     order.remove(&digest(3));
     assert_eq!(rt; order.len(), 3);
     let due = [digest(4), digest(1), digest(2)];
-    assert_eq!(rt; order.gone(&none, 9)?.as_slice(), &due[..]);
+    assert_eq!(rt; order.list()?.as_slice(), &due[..]);
+    Ok(())
+}
+
+// What a pass takes first.
+fn taken(order: &mut UseOrder, leases: &LeaseTable) -> Option<Digest> {
+    let mut from = None;
+    order.take_next(leases, &mut from)
+}
+
+#[test]
+fn a_pass_takes_the_least_recent_first(rt: HostRuntime) -> Result<(), Fail> {
+    let mut order = order(rt.alloc())?;
+    let none = LeaseTable::new(rt.alloc());
+    assert_eq!(rt; taken(&mut order, &none), Some(digest(1)));
     Ok(())
 }

@@ -1,9 +1,9 @@
 //! `UseOrder`.
 
-ghost use Rattle.std.specs.Prelude.{◌≡◌, ◌∷◌, ◌++◌, [], not, length, take, slice_get, true, false, IfOk, OnOk, OnErr};
+ghost use Rattle.std.specs.Prelude.{◌≡◌, ◌∷◌, ◌++◌, [], not, length, take, slice_get, true, false, IfOk, IfSome, IfNone, OnOk, OnErr};
 ghost use Rattle.store_core.specs.State.{is_among};
 ghost use Rattle.store_core.specs.Pass.{victims};
-ghost use Rattle.lease_table.specs.Table.{is_guarded, other_digests, unguarded};
+ghost use Rattle.lease_table.specs.Table.{is_guarded, other_digests, unguarded, behind, IsPassed};
 ghost use Rattle.lease_table.specs.Slots.{live};
 
 use crate::slots::Slots;
@@ -84,21 +84,45 @@ impl UseOrder {
     pub fn victims(&self, leases: &LeaseTable, used: u64, target: u64) -> u64
         ensures { result ≡ victims (unguarded leases.now self.now) used target }
     {
-        victims(self.slots.as_slice(), leases, used, target)
+        victims(self.slots.from_on(None), leases, used, target)
     }
 
     /// The least recently used digest that isn't guarded. It takes no memory.
     pub fn first_unguarded(&self, leases: &LeaseTable) -> Option<Digest>
         ensures { result ≡ slice_get (unguarded leases.now self.now) 0 }
     {
-        first_unguarded(self.slots.as_slice(), leases)
+        first_unguarded(self.slots.from_on(None), leases)
+    }
+
+    /// Takes out the least recently used digest that isn't guarded. A pass goes on at `from`, which is None at its start and
+    /// moves on to the digest behind the one that goes, so that it walks once over what it passes. It takes no memory.
+    pub fn take_next(&mut self, leases: &LeaseTable, from: &mut Option<Digest>) -> Option<Digest>
+        requires { IsPassed leases.now self.old from.old }
+        ensures first { result ≡ slice_get (unguarded leases.now self.old) 0 }
+        ensures some { IfSome result (λ d. self.new ≡ other_digests d self.old) }
+        ensures next { IfSome result (λ d. from.new ≡ behind d self.old) }
+        ensures none { IfNone result ((self.new ≡ self.old) × (from.new ≡ from.old)) }
+        ensures passed { IsPassed leases.now self.new from.new }
+    {
+        let digest = first_unguarded(self.slots.from_on(*from), leases)?;
+        *from = self.slots.behind(&digest);
+        self.slots.remove(&digest);
+        Some(digest)
+    }
+
+    /// The digests, the least recent first.
+    pub fn list(&self) -> Result<Digests, OutOfMemory>
+        ensures { IfOk result (λ ds. ds ≡ self.now) }
+    {
+        let digests = listed(self.alloc, self.slots.from_on(None))?;
+        Ok(Digests::from_vec(digests))
     }
 
     /// The first `count` unguarded digests in the order of use, or all where there are fewer.
     pub fn gone(&self, leases: &LeaseTable, count: u64) -> Result<Digests, OutOfMemory>
         ensures { IfOk result (λ ds. ds ≡ take count (unguarded leases.now self.now)) }
     {
-        let digests = gone(self.alloc, self.slots.as_slice(), leases, count)?;
+        let digests = gone(self.alloc, self.slots.from_on(None), leases, count)?;
         Ok(Digests::from_vec(digests))
     }
 }
@@ -167,6 +191,18 @@ fn gone(
         if let Some(digest) = loose(*slot, leases) {
             digests.push(digest)?;
             left -= 1;
+        }
+    }
+    Ok(digests)
+}
+
+fn listed(alloc: Global, slots: &[Option<Digest>]) -> Result<Vec<Digest>, OutOfMemory>
+    ensures { IfOk result (λ ds. ds.items ≡ live slots.now) }
+{
+    let mut digests = Vec::new(alloc);
+    'slots: for slot in slots {
+        if let Some(digest) = slot {
+            digests.push(*digest)?;
         }
     }
     Ok(digests)

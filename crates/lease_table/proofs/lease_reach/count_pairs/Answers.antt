@@ -35,7 +35,7 @@ pairs-preserved c =
                 subst (λ t. IsTallied rows (λ d. f d + touch (take (at + 1) keys) d) t.counts.entries t.bytes) (sym w.tally-is)
                 (tallied_same rows (λ d. (f d + touch (take at keys) d) + one_at p.digest d) (λ d. f d + touch (take (at + 1) keys) d) w.add.new.self.counts.entries w.add.new.self.bytes
                 (λ d. plus_assoc (f d) (touch (take at keys) d) (one_at p.digest d) ∙ ap (λ (k : ℕ). f d + k) (sym (touch_new keys at p d lt h.1 itself other)))
-                (w.add.ensures.tallied (λ d. f d + touch (take at keys) d) (sum_fits (f p.digest) (take at keys) p.digest (fits p.digest)) small old));
+                (w.add.ensures.tallied (λ d. f d + touch (take at keys) d) (sum_fits (f p.digest) (take at keys) p itself other (fits p.digest)) small old));
           }
       | in-Some+else-not-is_before w ↦
           let p = w.in-Some.pair in

@@ -1,4 +1,4 @@
-use Rattle.std.proofs.Common.{◌≡◌, ◌<◌, ◌∙◌, length, sym, ap, arith}
+use Rattle.std.proofs.Common.{◌≡◌, ◌+◌, ◌<◌, ◌∙◌, length, sym, ap, arith}
 use Rattle.lease_table.specs.declared.lease_reach.LeaseReach.{LeaseReach}
 use Rattle.lease_table.specs.LeaseReaches.{share, whole}
 use Rattle.lease_table.proofs.LeaseReachesLaws.{same_length, map_kept, every_set, every_all, full_shares, uncounted_rest, of_others, others_small, tallied_apart, tallied_whole, whole_share}
@@ -38,11 +38,13 @@ kept-preserved c =
       whole = map_kept whole items i y x lt (whole_is ∙ ap whole is) ∙ c.kept.invariant.whole;
       full = every_set (λ h. h.len ≡ length h.pairs) items i y lt c.kept.invariant.full all;
       room = omega (arith, rest, room, spent);
-      tallied = tallied_whole rows items i x c.count_pairs.new.tally.counts.entries c.count_pairs.new.tally.bytes lt is y share_is
-          (c.count_pairs.ensures.tallied (of_others rows items i x counts bytes lt is)
-          (λ q. let few = others_small rows items i x counts bytes lt is q in omega (arith, few))
+      used = let used = c.kept.invariant.used in omega (arith, rest, used, spent);
+      tallied = λ others small tallied.
+          tallied_whole rows items i x c.count_pairs.new.tally.counts.entries c.count_pairs.new.tally.bytes lt is others y share_is
+          (c.count_pairs.ensures.tallied (λ q. of_others rows items i x counts bytes lt is q + others q)
+          (λ q. let few = others_small rows items i x counts bytes lt is q in let less = small q in omega (arith, few, less))
           c.requires.small
-          (tallied_apart rows items i x counts bytes lt is c.kept.invariant.tallied));
+          (tallied_apart rows items i x counts bytes lt is others (c.kept.invariant.tallied others small tallied)));
     }
 
 pub count_pairs-requires : goal.count_pairs-requires
@@ -54,3 +56,9 @@ count_pairs-requires c =
     let rest = uncounted_rest items c.kept.i x x lt c.index_mut.ensures.value in
     let room = c.kept.invariant.room in
     omega (arith, rest, room)
+
+pub returns-clause-spare : goal.returns-clause-spare
+returns-clause-spare c = let used = c.kept.invariant.used in omega (arith, used)
+
+pub returns-clause-tallied : goal.returns-clause-tallied
+returns-clause-tallied c = λ others small tallied. c.kept.invariant.tallied others small tallied

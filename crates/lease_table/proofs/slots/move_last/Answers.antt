@@ -1,10 +1,10 @@
-use Rattle.std.proofs.Common.{◌≡◌, ◌+◌, ◌∙◌, ℕ, Option, Some, List, is_some, sym, ap, subst, cond, length, arith}
+use Rattle.std.proofs.Common.{◌≡◌, ◌+◌, ◌≤◌, ◌∷◌, ◌∙◌, [], ℕ, Option, Some, None, List, is_some, sym, ap, subst, cond, length, set, take, arith}
 use Rattle.std.specs.Map.{lookup}
 use Rattle.std.specs.Vec.{vec_len}
 use Rattle.digest_types.specs.Name.{HashAndSize}
 use Rattle.store_core.specs.State.{same}
 use Rattle.lease_table.specs.Slots.{live, IsPlaced}
-use Rattle.lease_table.proofs.SlotLaws.{emptied, placed_last, last_is, place_is}
+use Rattle.lease_table.proofs.SlotLaws.{emptied, placed_last, last_is, place_is, front_set, front_push, length_set}
 use Rattle.lease_table.proofs.slots.move_last.Goals as goal
 
 -- where the digest was
@@ -47,3 +47,10 @@ returns-in-Ok-None-clause-live c =
 pub returns-in-Err-clause-live : goal.returns-in-Err-clause-live
 returns-in-Err-clause-live c =
     absurd (place_is c.args.digest.now c.args.slots.now.items c.args.places.now.entries c.requires.placed c.requires.there c.in-Err.ensures.absent)
+
+pub returns-in-Ok-Some-clause-front : goal.returns-in-Ok-Some-clause-front
+returns-in-Ok-Some-clause-front c = λ n le e.
+    let slots = c.args.slots.now.items in
+    let place = c.in-Ok-Some.place in
+    subst (λ (xs : List (Option HashAndSize)). live (take n xs) ≡ []) (sym c.push_reserved.ensures.items)
+    (front_push (set slots place None) (Some c.args.digest.now ∷ []) n (subst (λ (k : ℕ). n ≤ k) (sym (length_set slots place None)) le) (front_set slots place n e))

@@ -1,5 +1,5 @@
 use Rattle.std.proofs.Common.{◌∙◌, sym, arith}
-use Rattle.lease_table.proofs.SlotLaws.{emptied, placed_without, not_placed}
+use Rattle.lease_table.proofs.SlotLaws.{emptied, placed_without, not_placed, front_set}
 use Rattle.lease_table.proofs.slots.remove_at.Goals as goal
 
 pub index_mut-requires : goal.index_mut-requires
@@ -22,3 +22,6 @@ returns-in-Some-clause-live c =
 pub returns-in_default-clause-live : goal.returns-in_default-clause-live
 returns-in_default-clause-live c =
     not_placed c.args.digest.now c.args.slots.now.items c.args.places.now.entries c.requires.placed (sym c.swap_remove.ensures.value ∙ c.in_default.is)
+
+pub returns-in-Some-clause-front : goal.returns-in-Some-clause-front
+returns-in-Some-clause-front c = λ n le e. front_set c.args.slots.now.items c.in-Some.place n e

@@ -4,7 +4,7 @@ use Rattle.lease_table.proofs.slots.Slots.add.Goals as goal
 
 pub grow-requires : goal.grow-requires
 grow-requires c =
-    let n = c.self.invariant.0.count in
+    let n = c.self.invariant.placed.count in
     let len = c.len.ensures.len in
     let few = fewer_live c.self.inside.slots.items in
     omega (arith, n, len, few)
