@@ -7,18 +7,17 @@ use Rattle.std.proofs.lemmas.Map.Views.{any-filter_same}
 use Rattle.digest_types.specs.Name.{HashAndSize}
 use Rattle.store_core.specs.declared.state.Row.{Row}
 use Rattle.store_core.specs.State.{same, is_among, total, sizes}
-use Rattle.store_core.specs.Reach.{Linked, is_reached}
+use Rattle.store_core.specs.Reach.{Linked}
 use Rattle.store_core.proofs.Elements.{every_map, filter_of_map, every_weaker}
 use Rattle.store_core.proofs.Passes.{not_among}
 use Rattle.store_core.proofs.Same.{equal_from_same, same_itself}
 use Rattle.store_core.proofs.Guarding.{same_swap}
-use Rattle.lease_table.specs.declared.table_lease.TableLease.{TableLease}
 use Rattle.lease_table.specs.Table as table
-use Rattle.lease_table.specs.Table.{Table, Distinct, DistinctDigests, guarded, is_blob, other_digests, roots, unguarded}
+use Rattle.lease_table.specs.Table.{Table, Distinct, DistinctDigests, guarded, is_blob, other_digests, unguarded}
 use Rattle.lease_table.proofs.OrderLaws.{distinct_kept, all_others}
 use Rattle.indexed_core.specs.Joined.{Soundness, IsJoined, row_in, rows_in}
-use Rattle.indexed_core.specs.Parts.{held_bytes}
-use Rattle.indexed_core.proofs.ReachedRows.{first_in_order, rows_held}
+use Rattle.indexed_core.specs.Parts.{Guards, guarded_bytes, is_wanted}
+use Rattle.indexed_core.proofs.ReachedRows.{first_in_order, rows_wanted}
 
 -- ---- digests that are kept
 
@@ -131,8 +130,8 @@ module _ (order : List HashAndSize) (there : List Linked) (flags : Soundness) (u
       ∙ sym (rows_total (filter keep order) there flags)
       ∙ ap sizes (sym (filter_of_map (row_in there flags) (λ (row : Row). keep row.digest) order))
 
-  -- the guarded bytes are those of the rows that are held
-  pub rows_guarded : (holds : List TableLease) → guarded (record { blobs = there; leases = holds }) ≡ held_bytes (record { rows = rows_in order there flags; holds = holds })
-  rows_guarded holds =
-      kept_total (λ d. is_reached there (roots holds) d)
-      ∙ ap (λ (test : HashAndSize → Bool). sizes (filter (λ row. test row.digest) (rows_in order there flags))) (λ i d. sym (rows_held order there flags used joined holds d) i)
+  -- the guarded bytes of the table are those of the rows
+  pub rows_guarded : (guards : Guards) → guarded (record { blobs = there; leases = guards.leases; holds = guards.holds }) ≡ guarded_bytes (record { rows = rows_in order there flags; guards = guards })
+  rows_guarded guards =
+      kept_total (λ d. table.is_wanted (record { blobs = there; leases = guards.leases; holds = guards.holds }) d)
+      ∙ ap (λ (test : HashAndSize → Bool). sizes (filter (λ row. test row.digest) (rows_in order there flags))) (λ i d. sym (rows_wanted order there flags used joined guards d) i)

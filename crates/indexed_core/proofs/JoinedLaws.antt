@@ -11,7 +11,7 @@ use Rattle.std.proofs.lemmas.List.Sums.{sum_by-append}
 use Rattle.digest_types.specs.Name.{HashAndSize}
 use Rattle.directory_canon.specs.declared.node.Edge.{Edge}
 use Rattle.store_core.specs.declared.state.Row.{Row}
-use Rattle.store_core.specs.State.{same, is_of, row_of, others, is_sound, is_among, total}
+use Rattle.store_core.specs.State.{same, is_of, row_of, others, is_sound, is_among, total, has_row}
 use Rattle.store_core.specs.Reach.{Linked}
 use Rattle.store_core.specs.Standing.{is_plain}
 use Rattle.store_core.specs.Step.{touched, damaged}
@@ -22,7 +22,6 @@ use Rattle.lease_table.specs.Table.{is_blob, Distinct, other_digests, DistinctDi
 use Rattle.lease_table.proofs.RowLaws.{others_fail}
 use Rattle.lease_table.proofs.OrderLaws.{distinct_kept, distinct_more, others_differ}
 use Rattle.indexed_core.specs.Joined.{Soundness, sound_in, set_flag, edges_if, edges_in, row_in, rows_in, IsJoined}
-use Rattle.indexed_core.specs.Parts.{has_row}
 use Rattle.indexed_core.proofs.FlagLaws.{set_has, set_same, set_other, sound_has}
 
 or_false : (b : Bool) → (b || false) ≡ b

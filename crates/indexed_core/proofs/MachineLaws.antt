@@ -1,4 +1,4 @@
--- A state by its rows and its holds, and rows that go one after the other.
+-- A state by its rows and what guards them, and rows that go one after the other.
 use Rattle.std.proofs.Common.{◌≡◌, ℕ, zero, suc, ◌+◌, ◌-◌, ◌<◌, ◌≤◌, Bool, true, false, cond, not, List, [], ◌∷◌, ◌++◌, length, take, drop, add-one, Some, inl, inr, refl, sym, ap, subst, ◌∙◌, arith}
 use Rattle.std.specs.Prelude.{filter, slice_get, ◌||◌, ◌&&◌}
 use Rattle.std.specs.List.{AllByRecursion}
@@ -14,7 +14,7 @@ use Rattle.store_core.specs.declared.event.Reply.{Reply}
 use Rattle.store_core.specs.declared.event.Reply.TheVariants as replies
 use Rattle.store_core.specs.declared.state.Row.{Row}
 use Rattle.store_core.specs.declared.state.Lease.{Lease}
-use Rattle.store_core.specs.State.{State, Distinct, same, is_among, is_of, others, digests, sizes, used, has_id as is_lease, roots as lease_roots}
+use Rattle.store_core.specs.State.{State, Holds, Distinct, is_held, same, is_among, is_of, others, digests, sizes, used, has_id as is_lease, roots as lease_roots}
 use Rattle.store_core.specs.Reach.{Linked, blobs, as_file, as_dir, reaches, is_reached}
 use Rattle.store_core.specs.Pass.{is_guarded, guarded, unguarded, frees, victims, without, pass}
 use Rattle.store_core.specs.Step.{passed, usage}
@@ -27,7 +27,7 @@ use Rattle.store_core.proofs.Same.{same_from_equal}
 use Rattle.store_core.proofs.FirstMentions.{filter_both}
 use Rattle.lease_table.specs.declared.table_lease.TableLease.{TableLease}
 use Rattle.lease_table.specs.Table.{has_id, roots}
-use Rattle.indexed_core.specs.Parts.{Parts, is_held, held_bytes, free, hold_of, holds_of}
+use Rattle.indexed_core.specs.Parts.{Parts, Guards, is_wanted, guarded_bytes, free, table_lease, table_leases, guards_of}
 use Rattle.indexed_core.specs.Removal.{removed}
 
 -- ---- filters
@@ -35,36 +35,44 @@ use Rattle.indexed_core.specs.Removal.{removed}
 filter_same : {X : Type 0} (p q : X → Bool) (xs : List X) → ((x : X) → p x ≡ q x) → filter p xs ≡ filter q xs
 filter_same p q xs h = filter_same_on p q xs (every_has (λ x. p x ≡ q x) xs (λ x has. h x))
 
--- ---- the holds are the leases without their owners
+-- ---- the guards of an index are those of the state
 
-pub roots_are : (leases : List Lease) → roots (holds_of leases) ≡ lease_roots leases
+pub roots_are : (leases : List Lease) → roots (table_leases leases) ≡ lease_roots leases
 roots_are [] = refl
 roots_are (lease ∷ leases) = ap (λ (es : List Edge). lease.root ∷ es) (roots_are leases)
 
-roots_of : (leases : List Lease) (holds : List TableLease) → holds ≡ holds_of leases → roots holds ≡ lease_roots leases
-roots_of leases holds e = ap roots e ∙ roots_are leases
+-- the parts of a state
+abbrev parts_of : State → Parts
+parts_of s = record { rows = s.rows; guards = guards_of s }
 
-pub bytes_held : (s : State) (p : Parts) → p.rows ≡ s.rows → p.holds ≡ holds_of s.leases → held_bytes p ≡ guarded s
-bytes_held s p rows holds =
-    ap (λ (starts : List Edge). sizes (filter (λ row. is_reached (blobs p.rows) starts row.digest) p.rows)) (roots_of s.leases p.holds holds)
-    ∙ ap (λ (rs : List Row). sizes (filter (λ row. is_reached (blobs rs) (lease_roots s.leases) row.digest) rs)) rows
+pub guards_are : (s : State) (guards : Guards) → guards.leases ≡ table_leases s.leases → guards.holds ≡ s.holds → guards ≡ guards_of s
+guards_are s guards leases holds =
+    ap (λ (ls : List TableLease). record { leases = ls; holds = guards.holds }) leases ∙ ap (λ (hs : List Holds). record { leases = table_leases s.leases; holds = hs }) holds
 
--- a digest is held where it is guarded
-pub held_is : (s : State) (p : Parts) (d : HashAndSize) → p.rows ≡ s.rows → p.holds ≡ holds_of s.leases → is_held p d ≡ is_guarded s d
-held_is s p d rows holds =
-    ap (λ (starts : List Edge). is_reached (blobs p.rows) starts d) (roots_of s.leases p.holds holds)
-    ∙ ap (λ (rs : List Row). is_reached (blobs rs) (lease_roots s.leases) d) rows
+parts_are : (s : State) (p : Parts) → p.rows ≡ s.rows → p.guards ≡ guards_of s → p ≡ parts_of s
+parts_are s p rows guards =
+    ap (λ (rs : List Row). record { rows = rs; guards = p.guards }) rows ∙ ap (λ (g : Guards). record { rows = s.rows; guards = g }) guards
 
-pub free_are : (s : State) (p : Parts) → p.rows ≡ s.rows → p.holds ≡ holds_of s.leases → free p ≡ unguarded s
-free_are s p rows holds =
-    ap (λ (starts : List Edge). filter (λ d. not (is_reached (blobs p.rows) starts d)) (digests p.rows)) (roots_of s.leases p.holds holds)
-    ∙ ap (λ (rs : List Row). filter (λ d. not (is_reached (blobs rs) (lease_roots s.leases) d)) (digests rs)) rows
+wanted_of : (s : State) (d : HashAndSize) → is_wanted (parts_of s) d ≡ is_guarded s d
+wanted_of s d = ap (λ (starts : List Edge). is_reached (blobs s.rows) starts d || is_held s.holds d) (roots_are s.leases)
 
-pub held_more : (leases : List Lease) (holds : List TableLease) (lease : Lease) → holds ≡ holds_of leases → holds ++ hold_of lease ∷ [] ≡ holds_of (leases ++ lease ∷ [])
-held_more leases holds lease e = ap (λ (hs : List TableLease). hs ++ hold_of lease ∷ []) e ∙ sym (map-append hold_of leases (lease ∷ []))
+pub bytes_guarded : (s : State) (p : Parts) → p.rows ≡ s.rows → p.guards ≡ guards_of s → guarded_bytes p ≡ guarded s
+bytes_guarded s p rows guards =
+    ap guarded_bytes (parts_are s p rows guards) ∙ ap (λ (test : HashAndSize → Bool). sizes (filter (λ row. test row.digest) s.rows)) (λ i d. wanted_of s d i)
 
-pub held_less : (id : ℕ) (leases : List Lease) (holds : List TableLease) → holds ≡ holds_of leases → filter (λ hold. not (has_id id hold)) holds ≡ holds_of (filter (λ other. not (is_lease id other)) leases)
-held_less id leases holds e = ap (filter (λ hold. not (has_id id hold))) e ∙ filter_of_map hold_of (λ hold. not (has_id id hold)) leases
+-- a digest is wanted where it is guarded
+pub wanted_is : (s : State) (p : Parts) (d : HashAndSize) → p.rows ≡ s.rows → p.guards ≡ guards_of s → is_wanted p d ≡ is_guarded s d
+wanted_is s p d rows guards = ap (λ (q : Parts). is_wanted q d) (parts_are s p rows guards) ∙ wanted_of s d
+
+pub free_are : (s : State) (p : Parts) → p.rows ≡ s.rows → p.guards ≡ guards_of s → free p ≡ unguarded s
+free_are s p rows guards =
+    ap free (parts_are s p rows guards) ∙ ap (λ (test : HashAndSize → Bool). filter (λ d. not (test d)) (digests s.rows)) (λ i d. wanted_of s d i)
+
+pub leases_more : (leases : List Lease) (held : List TableLease) (lease : Lease) → held ≡ table_leases leases → held ++ table_lease lease ∷ [] ≡ table_leases (leases ++ lease ∷ [])
+leases_more leases held lease e = ap (λ (ls : List TableLease). ls ++ table_lease lease ∷ []) e ∙ sym (map-append table_lease leases (lease ∷ []))
+
+pub leases_less : (id : ℕ) (leases : List Lease) (held : List TableLease) → held ≡ table_leases leases → filter (λ lease. not (has_id id lease)) held ≡ table_leases (filter (λ other. not (is_lease id other)) leases)
+leases_less id leases held e = ap (filter (λ lease. not (has_id id lease))) e ∙ filter_of_map table_lease (λ lease. not (has_id id lease)) leases
 
 -- ---- the first k of some digests
 
@@ -141,14 +149,18 @@ removed_reaches s count pair =
     let ds = take count (unguarded s) in
     ap (λ (left : List Linked). reaches left starts pair) (sym (blobs_without ds s.rows))
     ∙ removal there starts (λ blob. not (is_among ds blob.digest))
-    (λ blob has e. (or_parts (reaches there starts (as_file blob.digest)) (reaches there starts (as_dir blob.digest)) (among_free s count blob.digest e)).1)
+    (λ blob has e.
+    let free = (or_parts (is_reached there starts blob.digest) (is_held s.holds blob.digest) (among_free s count blob.digest e)).0 in
+    (or_parts (reaches there starts (as_file blob.digest)) (reaches there starts (as_dir blob.digest)) free).1)
     pair
 
 -- they change nothing of what is guarded
 pub removed_guards : (s : State) (count : ℕ) (d : HashAndSize) → is_guarded (removed s count) d ≡ is_guarded s d
 removed_guards s count d =
-    ap (λ b. b || reaches (blobs (removed s count).rows) (lease_roots s.leases) (as_dir d)) (removed_reaches s count (as_file d))
-    ∙ ap (λ b. reaches (blobs s.rows) (lease_roots s.leases) (as_file d) || b) (removed_reaches s count (as_dir d))
+    let left = blobs (removed s count).rows in
+    let starts = lease_roots s.leases in
+    ap (λ b. (b || reaches left starts (as_dir d)) || is_held s.holds d) (removed_reaches s count (as_file d))
+    ∙ ap (λ b. (reaches (blobs s.rows) starts (as_file d) || b) || is_held s.holds d) (removed_reaches s count (as_dir d))
 
 -- the unguarded digests that stay are the rest of them
 pub unguarded_rest : (s : State) (count : ℕ) → Distinct s.rows → unguarded (removed s count) ≡ drop count (unguarded s)
@@ -215,11 +227,11 @@ passed_is s count v e =
     ap (λ (k : ℕ). the_pass k (used (removed s n)) (removed s n)) many
     ∙ ap (λ (k : ℕ). the_pass k (used (removed s k)) (removed s k)) (sym e)
 
-pub usage_is : (s now : State) (p : Parts) (bytes held count low high : ℕ) → s ≡ now → p.rows ≡ s.rows → p.holds ≡ holds_of s.leases → bytes ≡ sizes p.rows → held ≡ held_bytes p → count ≡ length p.rows → low ≡ s.low → high ≡ s.high
-    → usage now ≡ (replies.Used (record { used = bytes; guarded = held; rows = count; low = low; high = high }), now)
-usage_is s now p bytes held count low high e rows holds is_bytes is_held is_count is_low is_high =
+pub usage_is : (s now : State) (p : Parts) (bytes guarded_size count low high : ℕ) → s ≡ now → p.rows ≡ s.rows → p.guards ≡ guards_of s → bytes ≡ sizes p.rows → guarded_size ≡ guarded_bytes p → count ≡ length p.rows → low ≡ s.low → high ≡ s.high
+    → usage now ≡ (replies.Used (record { used = bytes; guarded = guarded_size; rows = count; low = low; high = high }), now)
+usage_is s now p bytes guarded_size count low high e rows guards is_bytes is_size is_count is_low is_high =
     let a : used s ≡ bytes = sym (is_bytes ∙ ap sizes rows) in
-    let b : guarded s ≡ held = sym (is_held ∙ bytes_held s p rows holds) in
+    let b : guarded s ≡ guarded_size = sym (is_size ∙ bytes_guarded s p rows guards) in
     let c : length s.rows ≡ count = sym (is_count ∙ ap length rows) in
-    let at : usage s ≡ (replies.Used (record { used = bytes; guarded = held; rows = count; low = low; high = high }), s) = cc in
-    subst (λ (t : State). usage t ≡ (replies.Used (record { used = bytes; guarded = held; rows = count; low = low; high = high }), t)) e at
+    let at : usage s ≡ (replies.Used (record { used = bytes; guarded = guarded_size; rows = count; low = low; high = high }), s) = cc in
+    subst (λ (t : State). usage t ≡ (replies.Used (record { used = bytes; guarded = guarded_size; rows = count; low = low; high = high }), t)) e at

@@ -12,9 +12,9 @@ use Rattle.directory_canon.specs.declared.node.Edge.{Edge}
 use Rattle.store_core.specs.declared.event.Reply.{Reply}
 use Rattle.store_core.specs.declared.event.Reply.TheVariants as replies
 use Rattle.store_core.specs.declared.state.Row.{Row}
-use Rattle.store_core.specs.State.{State, IsKept, Distinct, is_empty, same, is_among, is_of, row_of, others, digests, sizes, used}
+use Rattle.store_core.specs.State.{State, IsKept, Distinct, is_empty, same, is_among, is_of, row_of, has_row, others, digests, sizes, used}
 use Rattle.store_core.specs.Pass.{is_guarded, guarded, unguarded, victims, gone, without}
-use Rattle.store_core.specs.Step.{is_open, put_over, put, served, step}
+use Rattle.store_core.specs.Step.{is_open, put_over, put, holding, served, step}
 use Rattle.store_core.specs.declared.event.Event.TheVariants as events
 use Rattle.store_core.proofs.Changes.{Adds, added_keeps, added_is, new_row, room_of, put_new_is, without_last}
 use Rattle.store_core.proofs.Elements.{every_filter, every_has, every_map, every_take, none_pass, find_none, find_missed, has_from_map}
@@ -22,9 +22,9 @@ use Rattle.store_core.proofs.Passes.{not_among}
 use Rattle.store_core.proofs.ReachLaws.{any_passes}
 use Rattle.store_core.proofs.RowLaws.{Differs, absent, found_row}
 use Rattle.store_core.proofs.Same.{equal_from_same, same_from_equal, not_same_from_other, other_from_not_same}
+use Rattle.store_core.proofs.Uses.{holding_rows}
 use Rattle.lease_table.specs.Table.{DistinctDigests}
 use Rattle.lease_table.proofs.OrderLaws.{distinct_kept}
-use Rattle.indexed_core.specs.Parts.{has_row}
 use Rattle.indexed_core.specs.Removal.{AreRows, PutsRow}
 use Rattle.indexed_core.proofs.MachineLaws.{counts}
 
@@ -209,17 +209,21 @@ puts_row s d row false is = record {
   there = λ e. again_here d e s.rows row is ∙ stays (has_row s.rows e);
 }
 
-again_by : (s : State) (d : HashAndSize) (edges : Option (List Edge)) (reply : Reply) (t : State) (o : Option Row) → row_of d s.rows ≡ o → has_row s.rows d ≡ true → (reply, t) ≡ put_over s d edges o → PutsRow d reply [] s.rows t.rows
-again_by s d edges reply t None at there is = absurd (let f = has_none d s.rows at in cc)
-again_by s d edges reply t (Some row) at there is =
+again_by : (s : State) (owner : ℕ) (d : HashAndSize) (edges : Option (List Edge)) (reply : Reply) (t : State) (o : Option Row) → row_of d s.rows ≡ o → has_row s.rows d ≡ true → (reply, t) ≡ holding owner d (put_over s d edges o)
+    → PutsRow d reply [] s.rows t.rows
+again_by s owner d edges reply t None at there is = absurd (let f = has_none d s.rows at in cc)
+again_by s owner d edges reply t (Some row) at there is =
     let P : Reply × State → Type 0 = λ (x : Reply × State). PutsRow d x.0 [] s.rows x.1.rows in
-    subst P (sym is) (puts_row s d row row.sound at)
+    let put_back = put_over s d edges (Some row) in
+    subst P (sym is) (subst (λ (rows : List Row). PutsRow d put_back.0 [] s.rows rows) (sym (holding_rows owner d put_back)) (puts_row s d row row.sound at))
 
-pub puts_again : (s : State) (d : HashAndSize) (edges : Option (List Edge)) (reply : Reply) (t : State) → has_row s.rows d ≡ true → (reply, t) ≡ put_over s d edges (row_of d s.rows) → PutsRow d reply [] s.rows t.rows
-puts_again s d edges reply t there is = again_by s d edges reply t (row_of d s.rows) refl there is
+pub puts_again : (s : State) (owner : ℕ) (d : HashAndSize) (edges : Option (List Edge)) (reply : Reply) (t : State) → has_row s.rows d ≡ true → (reply, t) ≡ holding owner d (put_over s d edges (row_of d s.rows))
+    → PutsRow d reply [] s.rows t.rows
+puts_again s owner d edges reply t there is = again_by s owner d edges reply t (row_of d s.rows) refl there is
 
 -- a put of an open owner of a blob with no row
-pub put_step : (s : State) (owner : ℕ) (d : HashAndSize) (edges : Option (List Edge)) → is_open s owner ≡ true → is_empty d ≡ false → row_of d s.rows ≡ None → put_over s d edges None ≡ step s owner (events.Put d edges)
+pub put_step : (s : State) (owner : ℕ) (d : HashAndSize) (edges : Option (List Edge)) → is_open s owner ≡ true → is_empty d ≡ false → row_of d s.rows ≡ None
+    → holding owner d (put_over s d edges None) ≡ step s owner (events.Put d edges)
 unfolding step served
 put_step s owner d edges opened filled none =
-    put_new_is s d edges filled none ∙ sym (cond-true (is_open s owner) (put s d edges) (replies.Refused, s) opened)
+    ap (holding owner d) (put_new_is s d edges filled none) ∙ sym (cond-true (is_open s owner) (holding owner d (put s d edges)) (replies.Refused, s) opened)

@@ -7,7 +7,7 @@ use Rattle.std.proofs.lemmas.Bool.{cond-true, cond-false}
 use Rattle.std.proofs.lemmas.Option.{same_Some}
 use Rattle.digest_types.specs.Name.{HashAndSize}
 use Rattle.directory_canon.specs.declared.node.Edge.{Edge}
-use Rattle.store_core.specs.State.{same, is_among, digests}
+use Rattle.store_core.specs.State.{same, is_among, is_held, digests}
 use Rattle.store_core.specs.Reach.{Linked, blobs, as_dir, as_file, pair_cmp, is_dir, within, reaches, reached, is_reached, is_nearer, is_deep}
 use Rattle.store_core.proofs.AscendingLaws.{Alike, equal_sorted, pair_exact}
 use Rattle.store_core.proofs.Elements.{every_has, every_contains, filter_same_on, has_cases, has_first, has_from_filter, has_from_map, has_map}
@@ -15,10 +15,10 @@ use Rattle.store_core.proofs.ReachLaws.{any_passes, order_changes_nothing, same_
 use Rattle.store_core.proofs.ReachedLaws.{reached_members, reached_sorted}
 use Rattle.store_core.proofs.Same.{equal_from_same, not_same_from_other, same_from_equal, same_itself}
 use Rattle.store_core.proofs.Passes.{among_has}
-use Rattle.lease_table.specs.declared.table_lease.TableLease.{TableLease}
+use Rattle.lease_table.specs.Table as table
 use Rattle.lease_table.specs.Table.{Table, Distinct, is_blob, is_guarded, roots, unguarded}
 use Rattle.indexed_core.specs.Joined.{Soundness, IsJoined, edges_if, edges_in, rows_in}
-use Rattle.indexed_core.specs.Parts.{free, is_held}
+use Rattle.indexed_core.specs.Parts.{Guards, free, is_wanted}
 
 -- ---- digests
 
@@ -139,22 +139,23 @@ module _ (order : List HashAndSize) (there : List Linked) (flags : Soundness) (u
   pub rows_deep : (starts : List Edge) (steps : ℕ) → is_deep (blobs (rows_in order there flags)) starts steps ≡ is_deep there starts steps
   rows_deep starts steps = same_deep there (blobs (rows_in order there flags)) rows_alike starts steps
 
-  -- a lease reaches the same among the rows and among the blobs
-  pub rows_held : (holds : List TableLease) (d : HashAndSize) → is_held (record { rows = rows_in order there flags; holds = holds }) d ≡ is_reached there (roots holds) d
-  rows_held holds d = same_is_reached there (blobs (rows_in order there flags)) rows_alike (roots holds) d
+  -- the same is wanted among the rows and among the blobs
+  pub rows_wanted : (guards : Guards) (d : HashAndSize)
+      → is_wanted (record { rows = rows_in order there flags; guards = guards }) d ≡ table.is_wanted (record { blobs = there; leases = guards.leases; holds = guards.holds }) d
+  rows_wanted guards d = ap (λ (b : Bool). b || is_held guards.holds d) (same_is_reached there (blobs (rows_in order there flags)) rows_alike (roots guards.leases) d)
 
-  unguarded_in : (holds : List TableLease) (d : HashAndSize) → Contains order d
-      → not (is_guarded (record { blobs = there; leases = holds }) d) ≡ not (is_held (record { rows = rows_in order there flags; holds = holds }) d)
-  unguarded_in holds d has =
-      ap (λ (b : Bool). not (b && is_reached there (roots holds) d)) (joined.has_blobs d ∙ among_has order d has)
-      ∙ ap not (sym (rows_held holds d))
+  unguarded_in : (guards : Guards) (d : HashAndSize) → Contains order d
+      → not (is_guarded (record { blobs = there; leases = guards.leases; holds = guards.holds }) d) ≡ not (is_wanted (record { rows = rows_in order there flags; guards = guards }) d)
+  unguarded_in guards d has =
+      ap (λ (b : Bool). not (b && table.is_wanted (record { blobs = there; leases = guards.leases; holds = guards.holds }) d)) (joined.has_blobs d ∙ among_has order d has)
+      ∙ ap not (sym (rows_wanted guards d))
 
   -- the digests of rows that aren't guarded are the free ones
-  pub rows_free : (holds : List TableLease) → unguarded (record { blobs = there; leases = holds }) order ≡ free (record { rows = rows_in order there flags; holds = holds })
-  rows_free holds =
-      let held = λ (d : HashAndSize). not (is_held (record { rows = rows_in order there flags; holds = holds }) d) in
-      filter_same_on (λ d. not (is_guarded (record { blobs = there; leases = holds }) d)) held order (every_has _ order (unguarded_in holds))
-      ∙ ap (filter held) (sym (digests_are order there flags))
+  pub rows_free : (guards : Guards) → unguarded (record { blobs = there; leases = guards.leases; holds = guards.holds }) order ≡ free (record { rows = rows_in order there flags; guards = guards })
+  rows_free guards =
+      let loose = λ (d : HashAndSize). not (is_wanted (record { rows = rows_in order there flags; guards = guards }) d) in
+      filter_same_on (λ d. not (is_guarded (record { blobs = there; leases = guards.leases; holds = guards.holds }) d)) loose order (every_has _ order (unguarded_in guards))
+      ∙ ap (filter loose) (sym (digests_are order there flags))
 
 -- ---- the first unguarded digest
 
@@ -170,11 +171,15 @@ pub not_both : (b c : Bool) → c ≡ false → (b && c) ≡ false
 not_both true c e = e
 not_both false c e = refl
 
-loose_by : (t : Table) (first d : HashAndSize) (rest : List HashAndSize) (b : Bool) → is_guarded t first ≡ b → slice_get (cond (not b) (first ∷ rest) rest) 0 ≡ Some d → (slice_get rest 0 ≡ Some d → is_guarded t d ≡ false) → is_guarded t d ≡ false
-loose_by t first d rest true e is h = h is
-loose_by t first d rest false e is h = ap (is_guarded t) (sym (same_Some first d is)) ∙ e
+fails_by : (test : HashAndSize → Bool) (first d : HashAndSize) (rest : List HashAndSize) (b : Bool) → test first ≡ b → slice_get (cond (not b) (first ∷ rest) rest) 0 ≡ Some d → (slice_get rest 0 ≡ Some d → test d ≡ false) → test d ≡ false
+fails_by test first d rest true e is h = h is
+fails_by test first d rest false e is h = ap test (sym (same_Some first d is)) ∙ e
+
+-- the first of those that fail a test fails it
+pub first_fails : (test : HashAndSize → Bool) (ds : List HashAndSize) (d : HashAndSize) → slice_get (filter (λ x. not (test x)) ds) 0 ≡ Some d → test d ≡ false
+first_fails test [] d e = absurd cc
+first_fails test (first ∷ ds) d e = fails_by test first d (filter (λ x. not (test x)) ds) (test first) refl e (first_fails test ds d)
 
 -- the first digest that isn't guarded isn't
 pub first_loose : (t : Table) (order : List HashAndSize) (d : HashAndSize) → slice_get (unguarded t order) 0 ≡ Some d → is_guarded t d ≡ false
-first_loose t [] d e = absurd cc
-first_loose t (first ∷ order) d e = loose_by t first d (unguarded t order) (is_guarded t first) refl e (first_loose t order d)
+first_loose t order d e = first_fails (is_guarded t) order d e

@@ -11,7 +11,7 @@ use Rattle.std.proofs.lemmas.Map.Views.{any-filter_same}
 use Rattle.digest_types.specs.Name.{HashAndSize}
 use Rattle.directory_canon.specs.declared.node.Edge.{Edge}
 use Rattle.store_core.specs.declared.state.Row.{Row}
-use Rattle.store_core.specs.State.{same, is_among, sizes, total}
+use Rattle.store_core.specs.State.{same, is_among, sizes, total, has_row}
 use Rattle.store_core.specs.Pass.{without}
 use Rattle.store_core.specs.Reach.{Linked}
 use Rattle.store_core.proofs.Elements.{every_weaker, filter_of_map, find_kept}
@@ -19,14 +19,13 @@ use Rattle.store_core.proofs.ReachLaws.{every}
 use Rattle.store_core.proofs.Same.{equal_from_same, not_same_from_other, same_itself}
 use Rattle.store_core.proofs.Guarding.{same_swap}
 use Rattle.store_core.proofs.Changes.{new_row}
-use Rattle.lease_table.specs.declared.table_lease.TableLease.{TableLease}
 use Rattle.lease_table.specs.Table as table
 use Rattle.lease_table.specs.Table.{is_blob, other_digests}
 use Rattle.lease_table.proofs.OrderLaws.{apart, distinct_kept, distinct_more}
 use Rattle.lease_table.proofs.RowLaws as blob_laws
 use Rattle.lease_table.proofs.RowLaws.{distinct_filter, distinct_push}
 use Rattle.indexed_core.specs.Joined.{Soundness, IsJoined, edges_if, edges_in, row_in, rows_in, sound_in, with_flag, kept_flags}
-use Rattle.indexed_core.specs.Parts.{Parts, has_row}
+use Rattle.indexed_core.specs.Parts.{Parts, Guards}
 use Rattle.indexed_core.proofs.HeldLaws.{among_kept, kept_total, rows_total, total_kept}
 use Rattle.indexed_core.proofs.JoinedLaws.{row_among}
 
@@ -244,6 +243,6 @@ flags_undone flags d none = (λ i q. by q (same q d) (same d q) (same_swap q d) 
 -- ---- rows that are there
 
 -- one with no row isn't in the order
-pub not_in_order : (order : List HashAndSize) (there : List Linked) (flags : Soundness) (holds : List TableLease) (now : Parts) (d : HashAndSize) → record { rows = rows_in order there flags; holds = holds } ≡ now → has_row now.rows d ≡ false
+pub not_in_order : (order : List HashAndSize) (there : List Linked) (flags : Soundness) (guards : Guards) (now : Parts) (d : HashAndSize) → record { rows = rows_in order there flags; guards = guards } ≡ now → has_row now.rows d ≡ false
     → is_among order d ≡ false
-not_in_order order there flags holds now d is none = sym (row_among order there flags d) ∙ ap (λ (p : Parts). has_row p.rows d) is ∙ none
+not_in_order order there flags guards now d is none = sym (row_among order there flags d) ∙ ap (λ (p : Parts). has_row p.rows d) is ∙ none

@@ -1,4 +1,4 @@
--- The holds of a number, among the leases with their owners.
+-- The leases of a number, among those with their owners.
 use Rattle.std.proofs.Common.{◌≡◌, ◌≢◌, ℕ, Bool, false, List, [], ◌∷◌, Some, refl, sym, ap, ◌∙◌, inl, inr, arith}
 use Rattle.std.specs.Prelude.{filter, find, Contains, ◌&&◌}
 use Rattle.std.specs.List.{AllByRecursion}
@@ -8,7 +8,7 @@ use Rattle.store_core.specs.State.{DistinctIds, is_of_owner, has_id as is_lease}
 use Rattle.store_core.proofs.Elements.{every_contains, every_weaker, has_cases, filter_of_map, find_has}
 use Rattle.lease_table.specs.declared.table_lease.TableLease.{TableLease}
 use Rattle.lease_table.specs.Table.{has_id, roots}
-use Rattle.indexed_core.specs.Parts.{hold_of, holds_of}
+use Rattle.indexed_core.specs.Parts.{table_lease, table_leases}
 
 none_kept : {X : Type 0} (p : X → Bool) (xs : List X) → AllByRecursion (λ x. p x ≡ false) xs → filter p xs ≡ []
 none_kept p [] h = refl
@@ -33,11 +33,11 @@ only_lease id (first ∷ rest) lease distinct has is =
     ]
 
 -- the lease that is found by its number and its owner has the one root of that number
-pub root_of_own : (owner id : ℕ) (leases : List Lease) (holds : List TableLease) (lease : Lease) → DistinctIds leases → holds ≡ holds_of leases
-    → find (λ l. is_lease id l && is_of_owner owner l) leases ≡ Some lease → roots (filter (has_id id) holds) ≡ lease.root ∷ []
-root_of_own owner id leases holds lease distinct same is =
+pub root_of_own : (owner id : ℕ) (leases : List Lease) (held : List TableLease) (lease : Lease) → DistinctIds leases → held ≡ table_leases leases
+    → find (λ l. is_lease id l && is_of_owner owner l) leases ≡ Some lease → roots (filter (has_id id) held) ≡ lease.root ∷ []
+root_of_own owner id leases held lease distinct same is =
     let f = find_has (λ l. is_lease id l && is_of_owner owner l) leases lease is in
     let numbered : lease.id ≡ id = eqb-true lease.id id (and_parts (is_lease id lease) (is_of_owner owner lease) f.1).0 in
-    ap (λ (hs : List TableLease). roots (filter (has_id id) hs)) same
-    ∙ ap roots (filter_of_map hold_of (has_id id) leases)
-    ∙ ap (λ (ls : List Lease). roots (holds_of ls)) (only_lease id leases lease distinct f.0 numbered)
+    ap (λ (ls : List TableLease). roots (filter (has_id id) ls)) same
+    ∙ ap roots (filter_of_map table_lease (has_id id) leases)
+    ∙ ap (λ (ls : List Lease). roots (table_leases ls)) (only_lease id leases lease distinct f.0 numbered)

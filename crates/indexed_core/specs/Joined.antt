@@ -8,7 +8,8 @@ use Rattle.directory_canon.specs.declared.node.Edge.{Edge}
 use Rattle.store_core.specs.declared.state.Row.{Row}
 use Rattle.store_core.specs.State.{same, is_among, total}
 use Rattle.store_core.specs.Reach.{Linked}
-use Rattle.lease_table.specs.Table.{is_blob, Distinct, DistinctDigests}
+use Rattle.lease_table.specs.Table.{Table, is_blob, Distinct, DistinctDigests}
+use Rattle.indexed_core.specs.Parts.{Guards}
 
 -- for each digest that has a row whether it is sound
 abbrev pub Soundness : Type 0
@@ -50,6 +51,10 @@ row_in there flags d = record { digest = d; edges = edges_in there d; sound = so
 -- the rows in the order of use
 abbrev pub rows_in : List HashAndSize → List Linked → Soundness → List Row
 rows_in order there flags = map (row_in there flags) order
+
+-- what guards the rows of a table
+abbrev pub guards_in : Table → Guards
+guards_in t = record { leases = t.leases; holds = t.holds }
 
 -- The order, the blobs and the flags are those of the same digests, each once, and this is the sum of their sizes.
 pub record IsJoined (order : List HashAndSize) (there : List Linked) (flags : Soundness) (used : ℕ) : Type 0 where

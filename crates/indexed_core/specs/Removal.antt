@@ -5,10 +5,9 @@ use Rattle.digest_types.specs.Name.{HashAndSize}
 use Rattle.store_core.specs.declared.state.Row.{Row}
 use Rattle.store_core.specs.declared.event.Reply.{Reply}
 use Rattle.store_core.specs.declared.event.Reply.TheVariants as replies
-use Rattle.store_core.specs.State.{State, same, is_among}
+use Rattle.store_core.specs.State.{State, same, is_among, has_row}
 use Rattle.store_core.specs.Pass.{unguarded, without}
-use Rattle.lease_table.specs.Table.{DistinctDigests}
-use Rattle.indexed_core.specs.Parts.{has_row}
+use Rattle.store_core.specs.State.{DistinctDigests}
 
 -- the state without the rows of the first unguarded digests
 abbrev pub removed : State → ℕ → State

@@ -2,15 +2,16 @@
 
 ghost use Rattle.std.specs.Prelude.{◌≡◌, ◌+◌, ◌≤◌, ◌^◌, ◌++◌, ◌∷◌, [], not, filter, take, length, false, true, slice_get, Some, IfOk, IfSome, OnOk, OnErr, IfNone};
 ghost use Rattle.std.specs.Option.{option_copied};
-ghost use Rattle.store_core.specs.State.{same, row_of, others, is_sound, is_among, sizes, total};
+ghost use Rattle.store_core.specs.State.{same, row_of, has_row, others, is_sound, is_among, digests, sizes, total, with_hold, other_holds};
 ghost use Rattle.store_core.specs.Reach.{blobs, reached, is_deep};
 ghost use Rattle.store_core.specs.Pass.{victims, without};
 ghost use Rattle.store_core.specs.Standing.{is_plain};
 ghost use Rattle.store_core.specs.Step.{touched, damaged};
+ghost use Rattle.lease_table.specs.Holds.{with_holder};
 ghost use Rattle.lease_table.specs.Table.{has_id, roots, other_digests, DistinctDigests};
 ghost use Rattle.indexed_core.specs.Joined.{told, kept_flags};
 ghost use Rattle.digest_types.specs.Name.{HashAndSize};
-ghost use Rattle.indexed_core.specs.Parts.{has_row, held_bytes, free, is_held};
+ghost use Rattle.indexed_core.specs.Parts.{guarded_bytes, free, is_wanted};
 
 use crate::flags::Flags;
 use digest_types::{Digest, Digests};
@@ -31,11 +32,11 @@ pub(crate) struct Index {
 
 impl Model for Index {
     ghost use Rattle.indexed_core.specs.Parts.{Parts};
-    ghost use Rattle.indexed_core.specs.Joined.{told, IsJoined, rows_in};
+    ghost use Rattle.indexed_core.specs.Joined.{told, IsJoined, rows_in, guards_in};
 
     ghost Value = { Parts };
 
-    ghost view = { λ a. record { rows = rows_in a.order a.table.blobs (told a.flags); holds = a.table.leases } };
+    ghost view = { λ a. record { rows = rows_in a.order a.table.blobs (told a.flags); guards = guards_in a.table } };
 
     ghost invariant = { λ a. IsJoined a.order a.table.blobs (told a.flags) a.used };
 }
@@ -43,7 +44,7 @@ impl Model for Index {
 impl Index {
     /// No rows and no leases. It takes no memory.
     pub(crate) fn new(alloc: Global) -> Index
-        ensures { result ≡ record { rows = []; holds = [] } }
+        ensures { result ≡ record { rows = []; guards = record { leases = []; holds = [] } } }
     {
         Index {
             order: UseOrder::new(alloc),
@@ -68,9 +69,9 @@ impl Index {
         self.used
     }
 
-    /// How many bytes the rows have that leases reach: a number that is kept.
-    pub(crate) fn held_bytes(&self) -> u64
-        ensures { result ≡ held_bytes self.now }
+    /// How many bytes the guarded rows have: a number that is kept.
+    pub(crate) fn guarded_bytes(&self) -> u64
+        ensures { result ≡ guarded_bytes self.now }
     {
         self.table.guarded_bytes()
     }
@@ -96,14 +97,14 @@ impl Index {
 
     /// The pairs that the leases with this number reach.
     pub(crate) fn reached(&self, id: u64) -> Result<Edges, OutOfMemory>
-        ensures { IfOk result (λ pairs. pairs ≡ reached (blobs self.now.rows) (roots (filter (has_id id) self.now.holds))) }
+        ensures { IfOk result (λ pairs. pairs ≡ reached (blobs self.now.rows) (roots (filter (has_id id) self.now.guards.leases))) }
     {
         self.table.reached(id)
     }
 
     /// Whether they reach a pair of kind Dir at so many steps or more.
     pub(crate) fn is_deep(&self, id: u64, steps: u64) -> Result<bool, OutOfMemory>
-        ensures { IfOk result (λ deep. deep ≡ is_deep (blobs self.now.rows) (roots (filter (has_id id) self.now.holds)) steps) }
+        ensures { IfOk result (λ deep. deep ≡ is_deep (blobs self.now.rows) (roots (filter (has_id id) self.now.guards.leases)) steps) }
     {
         self.table.is_deep(id, steps)
     }
@@ -115,18 +116,25 @@ impl Index {
         self.order.victims(&self.table, self.used, target)
     }
 
-    /// The first `count` digests that no lease reaches, in the order of use.
+    /// The first `count` digests that aren't guarded, in the order of use.
     pub(crate) fn first_free(&self, count: u64) -> Result<Digests, OutOfMemory>
         ensures { IfOk result (λ ds. ds ≡ take count (free self.now)) }
     {
         self.order.gone(&self.table, count)
     }
 
+    /// The digests of the rows, the least recently used first.
+    pub(crate) fn use_list(&self) -> Result<Digests, OutOfMemory>
+        ensures { IfOk result (λ ds. ds ≡ digests self.now.rows) }
+    {
+        self.order.list()
+    }
+
     // ---- leases
 
     /// After want of memory all is as before.
     pub(crate) fn lease(&mut self, id: u64, root: &Edge) -> Result<(), OutOfMemory>
-        ensures ok { OnOk result (self.new ≡ record self.old { holds = self.old.holds ++ record { id = id; root = root.now } ∷ [] }) }
+        ensures ok { OnOk result (self.new ≡ record self.old { guards = record self.old.guards { leases = self.old.guards.leases ++ record { id = id; root = root.now } ∷ [] } }) }
         ensures err { OnErr result (self.new ≡ self.old) }
     {
         self.table.lease(id, root.digest, root.kind)
@@ -134,9 +142,27 @@ impl Index {
 
     /// It takes no memory.
     pub(crate) fn release(&mut self, id: u64)
-        ensures { self.new ≡ record self.old { holds = filter (λ hold. not (has_id id hold)) self.old.holds } }
+        ensures { self.new ≡ record self.old { guards = record self.old.guards { leases = filter (λ lease. not (has_id id lease)) self.old.guards.leases } } }
     {
         self.table.release(id);
+    }
+
+    // ---- holds
+
+    /// An owner holds a digest from now on. After want of memory all is as before.
+    pub(crate) fn hold(&mut self, owner: u64, digest: &Digest) -> Result<(), OutOfMemory>
+        requires { has_row self.old.rows digest.now ≡ true }
+        ensures ok { OnOk result (self.new ≡ record self.old { guards = record self.old.guards { holds = with_hold owner digest.now self.old.guards.holds } }) }
+        ensures err { OnErr result (self.new ≡ self.old) }
+    {
+        self.table.hold(owner, digest)
+    }
+
+    /// Gives up all that an owner holds. It takes no memory.
+    pub(crate) fn drop_holds(&mut self, owner: u64)
+        ensures { self.new ≡ record self.old { guards = record self.old.guards { holds = other_holds owner self.old.guards.holds } } }
+    {
+        self.table.drop_holds(owner);
     }
 
     // ---- the use and the soundness of a row
@@ -171,19 +197,22 @@ impl Index {
 
     // ---- rows that come and go
 
-    /// Removes the rows of `gone`, and adds a sound one as the most recent. After want of memory all is as before.
+    /// Removes the rows of `gone`, and adds a sound one as the most recent, which an owner holds where one is named. After
+    /// want of memory all is as before.
     pub(crate) fn add(
         &mut self,
         digest: &Digest,
         edges: Option<&Edges>,
         gone: &Digests,
+        holder: Option<u64>,
     ) -> Result<(), OutOfMemory>
         requires new { has_row self.old.rows digest.now ≡ false }
         requires others { is_among gone.now digest.now ≡ false }
-        requires unguarded { (d : HashAndSize) → is_among gone.now d ≡ true → is_held self.old d ≡ false }
+        requires unguarded { (d : HashAndSize) → is_among gone.now d ≡ true → is_wanted self.old d ≡ false }
         requires small { sizes (without gone.now self.old.rows) + digest.now.size ≤ 2 ^ 62 }
         ensures ok { OnOk result (self.new ≡ record self.old {
           rows = without gone.now self.old.rows ++ record { digest = digest.now; edges = option_copied edges.entry; sound = true } ∷ [];
+          guards = record self.old.guards { holds = with_holder holder digest.now self.old.guards.holds };
         }) }
         ensures err { OnErr result (self.new ≡ self.old) }
     {
@@ -193,7 +222,7 @@ impl Index {
             self.flags.remove(digest);
             return Err(e);
         }
-        if let Err(e) = self.table.on_put(digest, edges, gone) {
+        if let Err(e) = self.table.on_put(digest, edges, gone, holder) {
             self.order.remove(digest);
             self.flags.remove(digest);
             return Err(e);
@@ -203,7 +232,7 @@ impl Index {
         Ok(())
     }
 
-    /// Removes the least recently used row that no lease reaches, if there is one. It takes no memory.
+    /// Removes the least recently used row that isn't guarded, if there is one. It takes no memory.
     pub(crate) fn remove_first(&mut self) -> Option<Digest>
         ensures first { result ≡ slice_get (free self.old) 0 }
         ensures some { IfSome result (λ d. self.new ≡ record self.old { rows = others d self.old.rows }) }

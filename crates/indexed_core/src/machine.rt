@@ -1,15 +1,15 @@
 //! `IndexedCore`.
 
-ghost use Rattle.std.specs.Prelude.{◌≡◌, ◌<◌, ◌≤◌, ◌+◌, ◌-◌, ◌^◌, ◌||◌, ◌∷◌, [], true, false, min, nat_lt, length, slice_get, ℕ, List, Option, Some, None, IfOk, IfSome, OnErr, IfNone, IsOk, if◌then◌else◌};
+ghost use Rattle.std.specs.Prelude.{◌≡◌, ◌<◌, ◌≤◌, ◌+◌, ◌-◌, ◌^◌, ◌||◌, ◌∷◌, [], true, false, min, nat_lt, length, slice_get, ℕ, List, Option, Some, None, IfOk, IfSome, OnOk, OnErr, IfNone, IsOk, if◌then◌else◌};
 ghost use Rattle.directory_canon.specs.declared.node.Edge.{Edge};
-ghost use Rattle.store_core.specs.State.{State, Distinct, new_state, is_empty, row_of, others, used};
-ghost use Rattle.store_core.specs.Step.{is_opening, is_open, is_here, step, served, opened, put, put_over, found, read, leased, confirmed, released, own_lease, noted, passed, usage, closed};
+ghost use Rattle.store_core.specs.State.{State, Distinct, digests, new_state, is_empty, is_session, row_of, has_row, others, used};
+ghost use Rattle.store_core.specs.Step.{is_opening, is_open, is_here, step, served, opened, put, put_over, holds_after, holding, found, read, leased, confirmed, released, own_lease, noted, passed, usage, closed};
 ghost use Rattle.store_core.specs.Pass.{gone, unguarded};
+ghost use Rattle.store_core.specs.Memory.{takes_memory};
 ghost use Rattle.store_core.specs.declared.event.Event.TheVariants as events;
 ghost use Rattle.store_core.specs.declared.event.Reply.TheVariants as replies;
-ghost use Rattle.indexed_core.specs.Parts.{has_row};
 ghost use Rattle.indexed_core.specs.Removal.{removed, PutsRow};
-ghost use Rattle.indexed_core.specs.Events.{moves_bodies, takes_memory};
+ghost use Rattle.indexed_core.specs.Events.{moves_bodies};
 
 use crate::asking::{is_here, missing, touch_all};
 use crate::index::Index;
@@ -19,9 +19,9 @@ use directory_canon::{Edge, Edges};
 use proto_wire::OutOfMemory;
 use std::alloc::Global;
 use std::marker::Model;
-use store_core::leases::{holds, own_lease, release};
+use store_core::leases::{has_lease, own_lease, release};
 use store_core::owners::{is_among, leave};
-use store_core::{Event, Lease, Marks, Reply, Usage, is_empty_blob};
+use store_core::{Event, Guard, Lease, Marks, Reply, Usage, is_empty_blob};
 
 /// The store's rules over hashed indexes.
 #[derive(Debug, Drop)]
@@ -38,25 +38,29 @@ pub struct IndexedCore {
 impl Model for IndexedCore {
     ghost use Rattle.std.specs.Prelude.{◌≡◌};
     ghost use Rattle.store_core.specs.State.{State, IsKept};
-    ghost use Rattle.indexed_core.specs.Parts.{holds_of};
+    ghost use Rattle.indexed_core.specs.Parts.{table_leases};
 
     ghost Value = { State };
 
     ghost view = { λ c. record {
       rows = c.index.rows;
       leases = c.leases.items;
+      holds = c.index.guards.holds;
       low = c.marks.low;
       high = c.marks.high;
+      guard = c.marks.guard;
       next_owner = c.next_owner;
       next_lease = c.next_lease;
       owners = c.owners.items;
     } };
 
-    ghost invariant = { λ c. (c.index.holds ≡ holds_of c.leases.items) × IsKept (record {
+    ghost invariant = { λ c. (c.index.guards.leases ≡ table_leases c.leases.items) × IsKept (record {
       rows = c.index.rows;
       leases = c.leases.items;
+      holds = c.index.guards.holds;
       low = c.marks.low;
       high = c.marks.high;
+      guard = c.marks.guard;
       next_owner = c.next_owner;
       next_lease = c.next_lease;
       owners = c.owners.items;
@@ -66,7 +70,7 @@ impl Model for IndexedCore {
 impl IndexedCore {
     /// An empty store with these marks. It takes no memory.
     pub fn new(alloc: Global, marks: Marks) -> IndexedCore
-        ensures { result ≡ new_state marks.low marks.high }
+        ensures { result ≡ new_state marks.low marks.high marks.guard }
     {
         IndexedCore {
             alloc,
@@ -85,7 +89,7 @@ impl IndexedCore {
     {
         Usage {
             used: self.index.used(),
-            guarded: self.index.held_bytes(),
+            guarded: self.index.guarded_bytes(),
             rows: self.index.len(),
             low: self.marks.low,
             high: self.marks.high,
@@ -120,6 +124,13 @@ impl IndexedCore {
         is_here(&self.index, digest)
     }
 
+    /// The digests of the rows, the least recently used first.
+    pub fn use_list(&self) -> Result<Digests, OutOfMemory>
+        ensures { IfOk result (λ ds. ds ≡ digests self.now.rows) }
+    {
+        self.index.use_list()
+    }
+
     /// One event of an owner that moves no body, and the reply. After want of memory all is as before.
     #[tactic(auto, unfolding(store_core::specs::Step::step))]
     pub fn step(&mut self, owner: u64, event: &Event) -> Result<Reply, OutOfMemory>
@@ -128,7 +139,7 @@ impl IndexedCore {
         requires leases { self.old.next_lease < 2 ^ 64 - 1 }
         ensures ok { IfOk result (λ reply. (reply, self.new) ≡ step self.old owner event.now) }
         ensures err { OnErr result (self.new ≡ self.old) }
-        ensures free { takes_memory event.now ≡ false → IsOk result }
+        ensures free { takes_memory self.old.guard event.now ≡ false → IsOk result }
     {
         if !matches!(event, Event::Open) && !self.is_open(owner) {
             return Ok(Reply::Refused);
@@ -145,12 +156,12 @@ impl IndexedCore {
         requires leases { self.old.next_lease < 2 ^ 64 - 1 }
         ensures ok { IfOk result (λ reply. (reply, self.new) ≡ served self.old owner event.now) }
         ensures err { OnErr result (self.new ≡ self.old) }
-        ensures free { takes_memory event.now ≡ false → IsOk result }
+        ensures free { takes_memory self.old.guard event.now ≡ false → IsOk result }
     {
         match event {
             Event::Open => self.open(),
             Event::Find { digests } => self.find(digests.as_slice()),
-            Event::Read { digest } => Ok(self.read(digest)),
+            Event::Read { digest } => self.read(owner, digest),
             Event::Lease { root, kind } => self.lease(
                 owner,
                 Edge {
@@ -181,13 +192,14 @@ impl IndexedCore {
         Ok(Reply::Opened { owner })
     }
 
-    // An owner goes, unless it holds leases. Its blobs stay.
+    // An owner goes, and its holds, unless it has leases. Its blobs stay.
     fn close(&mut self, owner: u64) -> Reply
         ensures { (result, self.new) ≡ closed self.old owner }
     {
-        if holds(&self.leases, owner) {
+        if has_lease(&self.leases, owner) {
             return Reply::Refused;
         }
+        self.index.drop_holds(owner);
         leave(&mut self.owners, owner);
         Reply::Closed
     }
@@ -205,14 +217,32 @@ impl IndexedCore {
     }
 
     // Whether the bytes of a blob can be read.
-    fn read(&mut self, digest: &Digest) -> Reply
-        ensures { (result, self.new) ≡ read self.old digest.now }
+    fn read(&mut self, owner: u64, digest: &Digest) -> Result<Reply, OutOfMemory>
+        requires open { is_open self.old owner ≡ true }
+        ensures ok { IfOk result (λ reply. (reply, self.new) ≡ holding owner digest.now (read self.old digest.now)) }
+        ensures err { OnErr result (self.new ≡ self.old) }
+        ensures free { is_session self.old.guard ≡ false → IsOk result }
     {
         if !self.is_here(digest) {
-            return Reply::Absent;
+            return Ok(Reply::Absent);
         }
+        self.hold_used(owner, digest)?;
         self.index.touch(digest);
-        Reply::Found
+        Ok(Reply::Found)
+    }
+
+    // Under the session guard an owner holds what it put or read and is there, unless it is the empty blob.
+    fn hold_used(&mut self, owner: u64, digest: &Digest) -> Result<(), OutOfMemory>
+        requires open { is_open self.old owner ≡ true }
+        requires there { is_empty digest.now ≡ false → has_row self.old.rows digest.now ≡ true }
+        ensures ok { OnOk result (self.new ≡ record self.old { holds = holds_after self.old.guard owner digest.now self.old.holds }) }
+        ensures err { OnErr result (self.new ≡ self.old) }
+        ensures free { is_session self.old.guard ≡ false → IsOk result }
+    {
+        if self.marks.guard == Guard::Session && !is_empty_blob(digest) {
+            self.index.hold(owner, digest)?;
+        }
+        Ok(())
     }
 
     // An owner that is open takes a lease.
@@ -283,39 +313,44 @@ impl IndexedCore {
             return Ok((Reply::Present, Digests::new(self.alloc)));
         }
         if self.index.has_row(digest) {
-            let reply = self.put_again(digest);
+            let reply = self.put_again(owner, digest)?;
             return Ok((reply, Digests::new(self.alloc)));
         }
-        self.put_new(digest, edges)
+        self.put_new(owner, digest, edges)
     }
 
     // The blob has a row.
-    fn put_again(&mut self, digest: &Digest) -> Reply
-        requires { has_row self.old.rows digest.now ≡ true }
-        ensures { (edges : Option (List Edge)) → (result, self.new) ≡ put_over self.old digest.now edges (row_of digest.now self.old.rows) }
+    fn put_again(&mut self, owner: u64, digest: &Digest) -> Result<Reply, OutOfMemory>
+        requires open { is_open self.old owner ≡ true }
+        requires there { has_row self.old.rows digest.now ≡ true }
+        ensures ok { IfOk result (λ reply. (edges : Option (List Edge)) → (reply, self.new) ≡ holding owner digest.now (put_over self.old digest.now edges (row_of digest.now self.old.rows))) }
+        ensures err { OnErr result (self.new ≡ self.old) }
     {
-        if self.index.renew(digest) {
+        self.hold_used(owner, digest)?;
+        Ok(if self.index.renew(digest) {
             Reply::Present
         } else {
             Reply::Repaired
-        }
+        })
     }
 
     // The blob has no row.
     fn put_new(
         &mut self,
+        owner: u64,
         digest: &Digest,
         edges: &Option<Edges>,
     ) -> Result<(Reply, Digests), OutOfMemory>
+        requires open { is_open self.old owner ≡ true }
         requires new { has_row self.old.rows digest.now ≡ false }
         requires filled { is_empty digest.now ≡ false }
-        ensures ok { IfOk result (λ r. (r.0, self.new) ≡ put_over self.old digest.now edges.now None) }
+        ensures ok { IfOk result (λ r. (r.0, self.new) ≡ holding owner digest.now (put_over self.old digest.now edges.now None)) }
         ensures rows { IfOk result (λ r. PutsRow digest.now r.0 r.1 self.old.rows self.new.rows) }
         ensures err { OnErr result (self.new ≡ self.old) }
     {
         let size = digest.size;
         let high = self.marks.high;
-        let guarded = self.index.held_bytes();
+        let guarded = self.index.guarded_bytes();
         if size > high - guarded {
             let reply = Reply::NoSpace {
                 guarded,
@@ -325,12 +360,23 @@ impl IndexedCore {
             return Ok((reply, Digests::new(self.alloc)));
         }
         let gone = self.room(size)?;
-        self.index.add(digest, edges.as_ref(), &gone)?;
+        let holder = self.holder(owner);
+        self.index.add(digest, edges.as_ref(), &gone, holder)?;
         let reply = Reply::Stored {
             removed: gone.len() as u64,
             used: self.index.used(),
         };
         Ok((reply, gone))
+    }
+
+    // The owner that holds what this one puts: under the session guard itself.
+    fn holder(&self, owner: u64) -> Option<u64>
+        ensures { result ≡ (if is_session self.now.guard then Some owner else None) }
+    {
+        match self.marks.guard {
+            Guard::Session => Some(owner),
+            Guard::Leases => None,
+        }
     }
 
     // The digests that go so that `size` more bytes fit: none where they fit, else those of a pass to the lesser of

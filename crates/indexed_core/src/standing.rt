@@ -68,7 +68,7 @@ pub(crate) fn standing(
     id: u64,
     files: bool,
 ) -> Result<Standing, OutOfMemory>
-    ensures { IfOk result (λ s. (root : Edge) → roots (filter (has_id id) index.now.holds) ≡ root ∷ [] → s ≡ standing index.now.rows root files) }
+    ensures { IfOk result (λ s. (root : Edge) → roots (filter (has_id id) index.now.guards.leases) ≡ root ∷ [] → s ≡ standing index.now.rows root files) }
 {
     let pairs = index.reached(id)?;
     if pairs.len() > MAX_PAIRS + 1 {

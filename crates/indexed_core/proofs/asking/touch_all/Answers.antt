@@ -9,7 +9,7 @@ pub loop-digest-preserved : goal.loop-digest-preserved
 loop-digest-preserved c =
     let rows = c.loop-digest.index.rows in
     record {
-      holds = ap (λ (p : Parts). p.holds) c.touch.ensures ∙ c.loop-digest.invariant.holds;
+      guards = ap (λ (p : Parts). p.guards) c.touch.ensures ∙ c.loop-digest.invariant.guards;
       rest = touched_all_more c.args.digests.now c.loop-digest.digest-index c.digest-item.result rows c.touch.new.self.rows c.loop-digest-test.true c.digest-item.is (ap (λ (p : Parts). p.rows) c.touch.ensures)
           ∙ c.loop-digest.invariant.rest;
     }
@@ -17,7 +17,7 @@ loop-digest-preserved c =
 pub returns : goal.returns
 returns c =
     let rows = sym (touched_all_end c.args.digests.now c.loop-digest.digest-index c.loop-digest.index.rows c.loop-digest-test.false) ∙ c.loop-digest.invariant.rest in
-    let holds = c.loop-digest.invariant.holds in
-    let both : c.loop-digest.index ≡ record { rows = touched_all c.args.digests.now c.args.index.now.rows; holds = c.args.index.now.holds } =
-    ap (λ (rs : List Row). record c.loop-digest.index { rows = rs }) rows ∙ ap (λ hs. record { rows = touched_all c.args.digests.now c.args.index.now.rows; holds = hs }) holds in
+    let guards = c.loop-digest.invariant.guards in
+    let both : c.loop-digest.index ≡ record { rows = touched_all c.args.digests.now c.args.index.now.rows; guards = c.args.index.now.guards } =
+    ap (λ (rs : List Row). record c.loop-digest.index { rows = rs }) rows ∙ ap (λ gs. record { rows = touched_all c.args.digests.now c.args.index.now.rows; guards = gs }) guards in
     both

@@ -5,6 +5,6 @@ use Rattle.indexed_core.proofs.asking.touch_all.Given as goal
 -- those of the rest touched are all touched
 abbrev pub invariant-loop-digest : goal.invariant-loop-digest
 invariant-loop-digest l = record {
-  holds : l.index.holds ≡ l.fn.index.holds;
+  guards : l.index.guards ≡ l.fn.index.guards;
   rest : touched_all (drop l.digest-index l.digests) l.index.rows ≡ touched_all l.digests l.fn.index.rows;
 }

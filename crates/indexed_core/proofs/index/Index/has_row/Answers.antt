@@ -1,6 +1,7 @@
 use Rattle.indexed_core.specs.Joined.{told}
+use Rattle.store_core.specs.State.{has_row}
 use Rattle.std.proofs.Common.{sym, ap, ◌∙◌}
-use Rattle.indexed_core.specs.Parts.{Parts, has_row}
+use Rattle.indexed_core.specs.Parts.{Parts}
 use Rattle.indexed_core.proofs.JoinedLaws.{row_among}
 use Rattle.indexed_core.proofs.index.Index.has_row.Goals as goal
 

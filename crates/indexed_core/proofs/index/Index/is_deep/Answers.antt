@@ -11,5 +11,5 @@ pub returns : goal.returns
 returns c =
     let i = c.self.inside in
     let is = sym (rows_deep i.order i.table.blobs (told i.flags) i.used c.self.invariant (root_of i.table c.args.id) c.args.steps)
-    ∙ ap (λ (p : Parts). is_deep (blobs p.rows) (roots (filter (has_id c.args.id) p.holds)) c.args.steps) c.self.view_is in
+    ∙ ap (λ (p : Parts). is_deep (blobs p.rows) (roots (filter (has_id c.args.id) p.guards.leases)) c.args.steps) c.self.view_is in
     subst (λ (b : Bool). IfOk c.is_deep.result (λ deep. deep ≡ b)) is c.is_deep.ensures

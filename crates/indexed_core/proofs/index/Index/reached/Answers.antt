@@ -11,5 +11,5 @@ use Rattle.indexed_core.proofs.index.Index.reached.Goals as goal
 pub returns : goal.returns
 returns c =
     let i = c.self.inside in
-    let all = sym (rows_reached i.order i.table.blobs (told i.flags) i.used c.self.invariant (root_of i.table c.args.id)) ∙ ap (λ (p : Parts). reached (blobs p.rows) (roots (filter (has_id c.args.id) p.holds))) c.self.view_is in
+    let all = sym (rows_reached i.order i.table.blobs (told i.flags) i.used c.self.invariant (root_of i.table c.args.id)) ∙ ap (λ (p : Parts). reached (blobs p.rows) (roots (filter (has_id c.args.id) p.guards.leases))) c.self.view_is in
     subst (λ (es : List Edge). IfOk c.reached.result (λ pairs. pairs ≡ es)) all c.reached.ensures

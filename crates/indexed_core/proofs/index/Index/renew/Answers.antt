@@ -2,9 +2,9 @@ use Rattle.std.proofs.Common.{◌≡◌, true, List, [], ◌∷◌, ◌++◌, Op
 use Rattle.std.specs.Prelude.{IfSome}
 use Rattle.digest_types.specs.Name.{HashAndSize}
 use Rattle.store_core.specs.declared.state.Row.{Row}
-use Rattle.store_core.specs.State.{row_of, others, is_among}
-use Rattle.indexed_core.specs.Joined.{told, Soundness, set_flag, row_in, rows_in, IsJoined}
-use Rattle.indexed_core.specs.Parts.{Parts, has_row}
+use Rattle.store_core.specs.State.{row_of, others, is_among, has_row}
+use Rattle.indexed_core.specs.Joined.{told, Soundness, set_flag, row_in, rows_in, IsJoined, guards_in}
+use Rattle.indexed_core.specs.Parts.{Parts}
 use Rattle.indexed_core.proofs.JoinedLaws.{moved, row_among, row_found, moved_joined, set_joined, renewed_joined}
 use Rattle.indexed_core.proofs.index.Index.renew.Goals as goal
 
@@ -46,8 +46,8 @@ returns-clause-renewed c =
     let d = c.args.digest.now in
     let row = row_in a.table.blobs (told a.flags) d in
     let turned =
-    ap (λ (order : List HashAndSize). record { rows = rows_in order a.table.blobs (told c.set.new.self); holds = a.table.leases }) c.touch.ensures
-    ∙ ap (λ (flags : Soundness). record { rows = rows_in (moved d a.order) a.table.blobs flags; holds = a.table.leases }) c.set.ensures
-    ∙ (λ i. record { rows = renewed_joined a.order a.table.blobs (told a.flags) a.used d c.self.invariant (among c) i; holds = a.table.leases })
+    ap (λ (order : List HashAndSize). record { rows = rows_in order a.table.blobs (told c.set.new.self); guards = guards_in a.table }) c.touch.ensures
+    ∙ ap (λ (flags : Soundness). record { rows = rows_in (moved d a.order) a.table.blobs flags; guards = guards_in a.table }) c.set.ensures
+    ∙ (λ i. record { rows = renewed_joined a.order a.table.blobs (told a.flags) a.used d c.self.invariant (among c) i; guards = guards_in a.table })
     ∙ ap (λ (p : Parts). record p { rows = others d p.rows ++ record row { sound = true } ∷ [] }) c.self.view_is in
-    subst (λ (o : Option Row). IfSome o (λ r. record { rows = rows_in c.touch.new.self a.table.blobs (told c.set.new.self); holds = a.table.leases } ≡ record c.args.self.now { rows = others d c.args.self.now.rows ++ record r { sound = true } ∷ [] })) (sym (found c)) turned
+    subst (λ (o : Option Row). IfSome o (λ r. record { rows = rows_in c.touch.new.self a.table.blobs (told c.set.new.self); guards = guards_in a.table } ≡ record c.args.self.now { rows = others d c.args.self.now.rows ++ record r { sound = true } ∷ [] })) (sym (found c)) turned

@@ -1,4 +1,5 @@
-use Rattle.std.proofs.Common.{◌≡◌, ◌∙◌, ◌++◌, ◌∷◌, [], true, List, sym, ap, subst}
+use Rattle.std.proofs.Common.{◌≡◌, ◌∙◌, ◌++◌, ◌∷◌, [], true, List, sym, ap, subst, refl}
+use Rattle.indexed_core.proofs.MachineLaws.{guards_are}
 use Rattle.store_core.specs.declared.state.Lease.{Lease}
 use Rattle.store_core.specs.State.{State}
 use Rattle.store_core.specs.Step.{is_open}
@@ -15,5 +16,5 @@ invariant_of-self-2 c =
     let open_here = subst (λ (t : State). is_open t c.args.owner ≡ true) (sym c.self.view_is) c.requires.open in
     let lease : Lease = record { id = s.next_lease; owner = c.args.owner; root = c.args.root } in
     let taken = c.push_reserved.ensures.items ∙ ap (λ (ls : List Lease). ls ++ lease ∷ []) c.in_ok-reserve.ensures.items in
-    lease_change s c.lease.new.self c.self.inside.index.holds c.push_reserved.new.self.items c.args.owner c.args.root c.self.invariant.0 c.in_ok-lease.ensures.ok taken
+    lease_change s c.lease.new.self c.self.inside.index.guards c.push_reserved.new.self.items c.args.owner c.args.root (guards_are (the_view c.self.inside) c.self.inside.index.guards c.self.invariant.0 refl) c.in_ok-lease.ensures.ok taken
     (kept_follows s _ (follows_leased s c.args.owner c.args.root (open_has s c.args.owner open_here)) c.self.invariant.1)

@@ -2,8 +2,7 @@ use Rattle.std.proofs.Common.{◌≡◌, ◌∙◌, List, sym, ap, subst}
 use Rattle.std.specs.Prelude.{IfOk}
 use Rattle.digest_types.specs.Name.{HashAndSize}
 use Rattle.store_core.specs.declared.event.Reply.{Reply}
-use Rattle.store_core.specs.State.{State}
-use Rattle.indexed_core.specs.Parts.{has_row}
+use Rattle.store_core.specs.State.{State, has_row}
 use Rattle.indexed_core.specs.Removal.{PutsRow}
 use Rattle.indexed_core.proofs.MachinePuts.{no_row, puts_again, put_step}
 use Rattle.indexed_core.proofs.machine.IndexedCore.put.Goals as goal
@@ -12,8 +11,8 @@ pub returns-then-has_row-clause-rows : goal.returns-then-has_row-clause-rows
 returns-then-has_row-clause-rows c =
     let d = c.args.digest.now in
     let there = ap (λ (t : State). has_row t.rows d) (sym c.self.view_is) ∙ sym c.has_row.ensures ∙ c.if-has_row.true in
-    subst (λ (ds : List HashAndSize). PutsRow d c.put_again-reply.result ds c.args.self.now.rows c.put_again-reply.new.self.rows) (sym c.new-then-has_row.ensures)
-    (puts_again c.args.self.now d c.args.edges.now c.put_again-reply.result c.put_again-reply.new.self there (c.put_again-reply.ensures c.args.edges.now))
+    subst (λ (ds : List HashAndSize). PutsRow d c.in_ok-reply.reply ds c.args.self.now.rows c.put_again.new.self.rows) (sym c.new-then-has_row.ensures)
+    (puts_again c.args.self.now c.args.owner d c.args.edges.now c.in_ok-reply.reply c.put_again.new.self there (c.in_ok-reply.ensures.ok c.args.edges.now))
 
 pub returns-clause-ok : goal.returns-clause-ok
 returns-clause-ok c =

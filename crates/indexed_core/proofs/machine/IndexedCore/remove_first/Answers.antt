@@ -1,35 +1,36 @@
 use Rattle.std.proofs.Common.{◌≡◌, ◌∙◌, true, List, refl, ap, subst}
 use Rattle.std.specs.Prelude.{slice_get, IfSome}
 use Rattle.digest_types.specs.Name.{HashAndSize}
-use Rattle.store_core.specs.State.{State}
+use Rattle.store_core.specs.State.{State, has_row}
 use Rattle.store_core.specs.Pass.{unguarded}
-use Rattle.indexed_core.specs.Parts.{has_row}
 use Rattle.indexed_core.specs.contracts.machine.IndexedCore.{the_view}
-use Rattle.indexed_core.proofs.MachineLaws.{free_are, next_first}
+use Rattle.indexed_core.proofs.MachineLaws.{free_are, next_first, guards_are}
 use Rattle.indexed_core.proofs.MachineChanges.{first_change, first_has_row, next_change}
 use Rattle.indexed_core.proofs.machine.IndexedCore.remove_first.Goals as goal
 
 pub invariant_of-self : goal.invariant_of-self
 invariant_of-self c =
-    first_change (the_view c.self.inside) c.remove_first.new.self c.self.inside.index.holds c.remove_first.result c.self.invariant.0 c.remove_first.ensures.some c.remove_first.ensures.none c.self.invariant.1
+    first_change (the_view c.self.inside) c.remove_first.new.self c.self.inside.index.guards c.remove_first.result (guards_are (the_view c.self.inside) c.self.inside.index.guards c.self.invariant.0 refl)
+    (c.remove_first.ensures.first ∙ ap (λ (ds : List HashAndSize). slice_get ds 0) (free_are (the_view c.self.inside) c.self.inside.index refl (guards_are (the_view c.self.inside) c.self.inside.index.guards c.self.invariant.0 refl)))
+    c.remove_first.ensures.some c.remove_first.ensures.none c.self.invariant.1
 
 pub returns-clause-first : goal.returns-clause-first
 returns-clause-first c =
     c.remove_first.ensures.first
-    ∙ ap (λ (ds : List HashAndSize). slice_get ds 0) (free_are (the_view c.self.inside) c.self.inside.index refl c.self.invariant.0)
+    ∙ ap (λ (ds : List HashAndSize). slice_get ds 0) (free_are (the_view c.self.inside) c.self.inside.index refl (guards_are (the_view c.self.inside) c.self.inside.index.guards c.self.invariant.0 refl))
     ∙ ap (λ (t : State). slice_get (unguarded t) 0) c.self.view_is
 
 pub returns-clause-row : goal.returns-clause-row
 returns-clause-row c =
     let s = the_view c.self.inside in
-    let first = c.remove_first.ensures.first ∙ ap (λ (ds : List HashAndSize). slice_get ds 0) (free_are s c.self.inside.index refl c.self.invariant.0) in
+    let first = c.remove_first.ensures.first ∙ ap (λ (ds : List HashAndSize). slice_get ds 0) (free_are s c.self.inside.index refl (guards_are (the_view c.self.inside) c.self.inside.index.guards c.self.invariant.0 refl)) in
     subst (λ (t : State). IfSome c.remove_first.result (λ d. has_row t.rows d ≡ true)) c.self.view_is (first_has_row s c.remove_first.result first)
 
 pub returns-clause-next : goal.returns-clause-next
 returns-clause-next c = λ s count distinct is lt.
     let old = the_view c.self.inside in
     let first = c.remove_first.ensures.first
-    ∙ ap (λ (ds : List HashAndSize). slice_get ds 0) (free_are old c.self.inside.index refl c.self.invariant.0)
+    ∙ ap (λ (ds : List HashAndSize). slice_get ds 0) (free_are old c.self.inside.index refl (guards_are (the_view c.self.inside) c.self.inside.index.guards c.self.invariant.0 refl))
     ∙ ap (λ (t : State). slice_get (unguarded t) 0) c.self.view_is
     ∙ next_first s c.args.self.now count distinct is lt in
-    (first, next_change old c.args.self.now s c.remove_first.new.self c.self.inside.index.holds count c.remove_first.result c.self.view_is is lt first c.remove_first.ensures.some)
+    (first, next_change old c.args.self.now s c.remove_first.new.self c.self.inside.index.guards count c.remove_first.result c.self.view_is is lt first c.remove_first.ensures.some (guards_are old c.self.inside.index.guards c.self.invariant.0 refl))
