@@ -81,7 +81,7 @@ seats_of old new seat aside is =
     (subst (λ (i : ℕ). slice_index_or new.seats i unseated ≡ seat) place is)
 
 -- the seats stay where the chosen one does
-seats_stay : (old new : Benched) → (view_of new).aside ≡ (view_of old).aside → (seat_of new).owner ≡ (seat_of old).owner → (seat_of new).entered ≡ (seat_of old).entered → new.seats ≡ old.seats
+pub seats_stay : (old new : Benched) → (view_of new).aside ≡ (view_of old).aside → (seat_of new).owner ≡ (seat_of old).owner → (seat_of new).entered ≡ (seat_of old).entered → new.seats ≡ old.seats
 seats_stay old new aside owner entered =
     seats_of old new (seat_of old) aside (seat_is (seat_of new) (seat_of old) owner entered) ∙ set-get_or old.seats old.chosen unseated
 

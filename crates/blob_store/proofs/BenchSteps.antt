@@ -15,7 +15,7 @@ use Rattle.store_core.specs.declared.event.Event.{Event}
 use Rattle.store_core.specs.declared.event.Event.TheVariants as events
 use Rattle.store_core.specs.declared.event.Reply.{Reply}
 use Rattle.store_core.specs.declared.event.Reply.TheVariants as replies
-use Rattle.store_core.specs.State.{State, Valid, is_empty, row_of, used, has_id, is_of_owner}
+use Rattle.store_core.specs.State.{State, Valid, is_empty, row_of, used, has_id, is_of_owner, other_holds}
 use Rattle.store_core.specs.Pass.{guarded, pass}
 use Rattle.store_core.specs.Standing.{standing}
 use Rattle.store_core.specs.Step.{is_open, is_opening, with_room, with_row, put_over, put, missing, touched, is_here, own_lease, confirmed, released, closed, served, step}
@@ -26,6 +26,7 @@ use Rattle.store_core.proofs.Entries.{leases_by_own, served_by}
 use Rattle.store_core.proofs.Histories.{state_after}
 use Rattle.store_core.proofs.Kept.{chosen, follows_step}
 use Rattle.store_core.proofs.OwnerLaws.{open_has}
+use Rattle.store_core.proofs.Uses.{put_uses, read_uses}
 use Rattle.turn_lock.specs.Noted.{entry}
 use Rattle.blob_store.specs.declared.door.PutReply.TheVariants as puts
 use Rattle.blob_store.specs.declared.seat.Seat.{Seat}
@@ -184,7 +185,7 @@ served_numbered who s owner (events.Damage d) other = tt
 served_numbered who s owner events.Pass other = tt
 served_numbered who s owner events.Usage other = tt
 served_numbered who s owner events.Close other =
-    reply_by (IsNumbered who) (list_any (is_of_owner owner) s.leases) (replies.Refused, s) (replies.Closed, record s { owners = filter (λ o. not (nat_eq o owner)) s.owners })
+    reply_by (IsNumbered who) (list_any (is_of_owner owner) s.leases) (replies.Refused, s) (replies.Closed, record s { owners = filter (λ o. not (nat_eq o owner)) s.owners; holds = other_holds owner s.holds })
     (λ _. tt) (λ _. tt)
 
 -- only an Open's reply tells the number of an owner
@@ -199,22 +200,6 @@ reply_is_numbered who s owner event other =
 abbrev KeepsOwners : State → State → Type 0
 KeepsOwners s t = (t.owners ≡ s.owners) × (t.next_owner ≡ s.next_owner)
 
-room_owners : (s : State) (size : ℕ) → KeepsOwners s (with_room s size)
-room_owners s size = cond_both (nat_lt s.high (used s + size)) (pass s (min s.low (s.high - size))) s (KeepsOwners s) (λ _. (refl, refl)) (λ _. (refl, refl))
-
-put_over_owners : (s : State) (d : HashAndSize) (edges : Option (List Edge)) (o : Option Row) → KeepsOwners s (put_over s d edges o).1
-put_over_owners s d edges (Some row) = (refl, refl)
-put_over_owners s d edges None =
-    let row : Row = record { digest = d; edges = edges; sound = true } in
-    chosen (KeepsOwners s) (nat_lt s.high (guarded s + d.size)) (replies.NoSpace (guarded s) d.size s.high, s)
-    (replies.Stored (length s.rows - length (with_room s d.size).rows) (used (with_room s d.size) + d.size), with_row (with_room s d.size) row)
-    (λ _. (refl, refl))
-    (λ _. room_owners s d.size)
-
-put_owners : (s : State) (d : HashAndSize) (edges : Option (List Edge)) → KeepsOwners s (put s d edges).1
-unfolding put
-put_owners s d edges = chosen (KeepsOwners s) (is_empty d) (replies.Present, s) (put_over s d edges (row_of d s.rows)) (λ _. (refl, refl)) (λ _. put_over_owners s d edges (row_of d s.rows))
-
 confirmed_owners : (s : State) (files : Bool) (o : Option Lease) → KeepsOwners s (confirmed s files o).1
 confirmed_owners s files None = (refl, refl)
 confirmed_owners s files (Some lease) = (refl, refl)
@@ -226,10 +211,9 @@ released_owners s id (Some lease) = (refl, refl)
 served_owners : (s : State) (owner : ℕ) (event : Event) → event ≢ events.Open → event ≢ events.Close → KeepsOwners s (served s owner event).1
 unfolding served
 served_owners s owner events.Open comes goes = absurd (comes refl)
-served_owners s owner (events.Put d edges) comes goes = put_owners s d edges
+served_owners s owner (events.Put d edges) comes goes = ((put_uses s owner d edges).owners, (put_uses s owner d edges).next_owner)
 served_owners s owner (events.Find ds) comes goes = (refl, refl)
-served_owners s owner (events.Read d) comes goes =
-    chosen (KeepsOwners s) (is_here s.rows d) (replies.Found, record s { rows = touched d s.rows }) (replies.Absent, s) (λ _. (refl, refl)) (λ _. (refl, refl))
+served_owners s owner (events.Read d) comes goes = ((read_uses s owner d).owners, (read_uses s owner d).next_owner)
 served_owners s owner (events.Lease root kind) comes goes = (refl, refl)
 served_owners s owner (events.Confirm id files) comes goes = confirmed_owners s files (own_lease s owner id)
 served_owners s owner (events.Release id) comes goes = released_owners s id (own_lease s owner id)
@@ -586,10 +570,10 @@ owner_enters s s' b b' reply bench room e is =
 -- ---- an owner goes
 
 -- what an open owner's Close leaves where it isn't refused
-closed_owners : (s s' : State) (owner : ℕ) (b : Bool) → (replies.Closed, s') ≡ cond {A = Reply × State} b (replies.Refused, s) (replies.Closed, record s { owners = filter (λ o. not (nat_eq o owner)) s.owners })
+closed_owners : (s s' : State) (owner : ℕ) (b : Bool) → (replies.Closed, s') ≡ cond {A = Reply × State} b (replies.Refused, s) (replies.Closed, record s { owners = filter (λ o. not (nat_eq o owner)) s.owners; holds = other_holds owner s.holds })
     → (s'.owners ≡ filter (λ o. not (nat_eq o owner)) s.owners) × (s'.next_owner ≡ s.next_owner)
 closed_owners s s' owner true e = let no : replies.Closed ≡ replies.Refused = ap (λ (r : Reply × State). r.0) e in absurd cc
-closed_owners s s' owner false e = let to : s' ≡ record s { owners = filter (λ o. not (nat_eq o owner)) s.owners } = ap (λ (r : Reply × State). r.1) e in
+closed_owners s s' owner false e = let to : s' ≡ record s { owners = filter (λ o. not (nat_eq o owner)) s.owners; holds = other_holds owner s.holds } = ap (λ (r : Reply × State). r.1) e in
     (ap (λ (t : State). t.owners) to, ap (λ (t : State). t.next_owner) to)
 
 step_closed : (s s' : State) (owner : ℕ) → is_open s owner ≡ true → (replies.Closed, s') ≡ step s owner events.Close
@@ -731,7 +715,7 @@ none_pass_by p (lease ∷ leases) e = none_by p lease leases (p lease) refl (non
 
 closed_reply : (s : State) (owner : ℕ) → list_any (is_of_owner owner) s.leases ≡ false → (closed s owner).0 ≡ replies.Closed
 closed_reply s owner none =
-    ap (λ (r : Reply × State). r.0) (cond-false (list_any (is_of_owner owner) s.leases) (replies.Refused, s) (replies.Closed, record s { owners = filter (λ o. not (nat_eq o owner)) s.owners }) none)
+    ap (λ (r : Reply × State). r.0) (cond-false (list_any (is_of_owner owner) s.leases) (replies.Refused, s) (replies.Closed, record s { owners = filter (λ o. not (nat_eq o owner)) s.owners; holds = other_holds owner s.holds }) none)
 
 -- an open owner without leases may go
 pub close_replies : (s : State) (owner : ℕ) → is_open s owner ≡ true → leases_of owner s ≡ [] → (step s owner events.Close).0 ≡ replies.Closed

@@ -1,102 +1,58 @@
 -- Bodies under their digests.
-use Rattle.std.proofs.Common.{◌≡◌, ◌≢◌, ℕ, zero, suc, ◌+◌, ◌-◌, ◌^◌, ◌<◌, min, length, get_or, take, Bool, true, false, cond, not, ◌||◌, ◌&&◌, List, [], ◌∷◌, ◌++◌, Bor, Option, Some, None, is_some, IfSome, refl, sym, ap, subst, ◌∙◌, arith}
-use Rattle.std.specs.Prelude.{filter, map, if◌then◌else◌}
-use Rattle.std.specs.List.{AllByRecursion, IsDistinct}
-use Rattle.std.specs.Map.{keys_of, lookup, remove_entry}
+use Rattle.std.proofs.Common.{◌≡◌, ◌≢◌, ℕ, zero, suc, ◌+◌, ◌-◌, ◌^◌, ◌<◌, min, length, get_or, take, Bool, true, false, cond, not, ◌||◌, ◌&&◌, List, [], ◌∷◌, Bor, Option, Some, None, is_some, IfSome, refl, sym, ap, subst, ◌∙◌, arith}
+use Rattle.std.specs.Prelude.{map, if◌then◌else◌}
+use Rattle.std.specs.List.{AllByRecursion}
+use Rattle.std.specs.Map.{lookup, remove_entry}
 use Rattle.std.specs.Option.{option_copied, option_map}
-use Rattle.std.proofs.lemmas.Bool.{or_parts}
-use Rattle.std.proofs.lemmas.Map.Keys.{IsDistinct-head, IsDistinct-tail}
+use Rattle.std.proofs.lemmas.Map.Made.{lookup-map_values}
 use Rattle.digest_types.specs.Name.{HashAndSize}
 use Rattle.digest_types.specs.Digest.{digest_of}
 use Rattle.indexmap.specs.IndexMap.{insert_entry}
 use Rattle.store_core.specs.declared.state.Row.{Row}
 use Rattle.store_core.specs.State.{same, is_among}
-use Rattle.store_core.proofs.Same.{equal_from_same, not_same_from_other, other_from_not_same}
+use Rattle.store_core.proofs.Same.{equal_from_same, not_same_from_other}
 use Rattle.store_core.proofs.Guarding.{same_swap}
-use Rattle.lease_table.specs.Table.{other_digests, DistinctDigests}
-use Rattle.lease_table.proofs.OrderLaws.{all_others}
+use Rattle.lease_table.specs.Table.{DistinctDigests}
 use Rattle.blob_store.specs.Shelves.{Shelved, counting, discarding}
-use Rattle.indexed_core.specs.Parts.{has_row}
+use Rattle.store_core.specs.State.{has_row}
 use Rattle.indexed_core.specs.Removal.{AreRows}
-use Rattle.indexed_core.proofs.JoinedLaws.{among_kept}
-use Rattle.blob_store.specs.Kept.{Kept, AreBodiesOf}
+use Rattle.blob_store.specs.Kept.{Told, told_in, AreBodiesOf}
 
 -- the bytes that a body tells are those of a digest
 abbrev pub IsBodyOf : Option (List ℕ) → HashAndSize → Type 0
 IsBodyOf told d = IfSome told (λ bytes. d ≡ digest_of bytes)
 
-differing : (d k : HashAndSize) (ks : List HashAndSize) → d ≡ k → AllByRecursion (λ y. same k y ≡ false) ks → AllByRecursion (λ other. other ≢ d) ks
-differing d k [] is h = tt
-differing d k (y ∷ ks) is h = (λ q. other_from_not_same k y h.0 (sym is ∙ sym q), differing d k ks is h.1)
-
 module _ {V : Type 0} where
-  -- ---- look-ups
-
-  there_by : (b : Bool) (v : V) (o : Option V) (rest : Bool) → is_some o ≡ rest → is_some (cond b (Some v) o) ≡ (b || rest)
-  there_by true v o rest h = refl
-  there_by false v o rest h = h
-
-  -- a digest has a body where it is among the digests
-  pub lookup_there : (d : HashAndSize) (entries : List (HashAndSize × V)) → is_some (lookup (same d) entries) ≡ is_among (keys_of entries) d
-  lookup_there d [] = refl
-  lookup_there d (e ∷ es) = there_by (same d e.0) e.1 (lookup (same d) es) (is_among (keys_of es) d) (lookup_there d es)
-
-  copied_some : (o : Option (Bor V)) → is_some o ≡ is_some (option_copied o)
-  copied_some (Some v) = refl
-  copied_some None = refl
-
-  pub got_there : (d : HashAndSize) (entries : List (HashAndSize × V)) (o : Option (Bor V)) → option_copied o ≡ lookup (same d) entries → is_some o ≡ is_among (keys_of entries) d
-  got_there d entries o e = copied_some o ∙ ap is_some e ∙ lookup_there d entries
-
-  -- what is among the digests is found
-  pub found_there : (d : HashAndSize) (entries : List (HashAndSize × V)) → lookup (same d) entries ≡ None → is_among (keys_of entries) d ≡ false
-  found_there d entries e = sym (lookup_there d entries) ∙ ap is_some e
-
-  -- ---- changes
-
-  inserted_by : (d : HashAndSize) (v : V) (e : HashAndSize × V) (es : List (HashAndSize × V)) (b : Bool) → b ≡ false
-      → keys_of (if b then (e.0, v) ∷ es else e ∷ insert_entry same es d v) ≡ e.0 ∷ keys_of (insert_entry same es d v)
-  inserted_by d v e es true f = absurd cc
-  inserted_by d v e es false f = refl
-
-  -- a digest that has no body comes last
-  pub inserted_last : (d : HashAndSize) (v : V) (entries : List (HashAndSize × V)) → is_among (keys_of entries) d ≡ false → keys_of (insert_entry same entries d v) ≡ keys_of entries ++ d ∷ []
-  inserted_last d v [] none = refl
-  inserted_last d v (e ∷ es) none =
-      let h = or_parts (same d e.0) (is_among (keys_of es) d) none in
-      inserted_by d v e es (same d e.0) h.0 ∙ ap (λ (ds : List HashAndSize). e.0 ∷ ds) (inserted_last d v es h.1)
-
-  again_by : (d : HashAndSize) (v : V) (e : HashAndSize × V) (es : List (HashAndSize × V)) (b m : Bool) → (m ≡ true → keys_of (insert_entry same es d v) ≡ keys_of es) → (b || m) ≡ true
-      → keys_of (if b then (e.0, v) ∷ es else e ∷ insert_entry same es d v) ≡ e.0 ∷ keys_of es
-  again_by d v e es true m h t = refl
-  again_by d v e es false m h t = ap (λ (ds : List HashAndSize). e.0 ∷ ds) (h t)
-
-  -- and one that has one keeps its place
-  pub inserted_again : (d : HashAndSize) (v : V) (entries : List (HashAndSize × V)) → is_among (keys_of entries) d ≡ true → keys_of (insert_entry same entries d v) ≡ keys_of entries
-  inserted_again d v [] there = absurd cc
-  inserted_again d v (e ∷ es) there = again_by d v e es (same d e.0) (is_among (keys_of es) d) (inserted_again d v es) there
-
-  removed_by : (d : HashAndSize) (e : HashAndSize × V) (es : List (HashAndSize × V)) (b c : Bool) → b ≡ c → (b ≡ true → other_digests d (keys_of es) ≡ keys_of es)
-      → keys_of (remove_entry (same d) es) ≡ other_digests d (keys_of es)
-      → keys_of (cond b es (e ∷ remove_entry (same d) es)) ≡ cond (not c) (e.0 ∷ other_digests d (keys_of es)) (other_digests d (keys_of es))
-  removed_by d e es true true q h rest = sym (h refl)
-  removed_by d e es false false q h rest = ap (λ (ds : List HashAndSize). e.0 ∷ ds) rest
-  removed_by d e es true false q h rest = absurd cc
-  removed_by d e es false true q h rest = absurd cc
-
-  -- without the body of a digest, the digests are the other ones
-  pub removed : (d : HashAndSize) (entries : List (HashAndSize × V)) → IsDistinct same (keys_of entries) → keys_of (remove_entry (same d) entries) ≡ other_digests d (keys_of entries)
-  removed d [] distinct = refl
-  removed d (e ∷ es) distinct =
-      removed_by d e es (same d e.0) (same e.0 d) (same_swap d e.0)
-      (λ t. all_others d (keys_of es) (differing d e.0 (keys_of es) (equal_from_same d e.0 t) (IsDistinct-head same e.0 (keys_of es) distinct)))
-      (removed d es (IsDistinct-tail same e.0 (keys_of es) distinct))
-
   -- ---- what the bodies tell
   module _ (told : V → Option (List ℕ)) where
     -- each body tells bytes of its digest
     abbrev pub AreTold : List (HashAndSize × V) → Type 0
     AreTold entries = AllByRecursion (λ entry. IfSome (told entry.1) (λ bytes. entry.0 ≡ digest_of bytes)) entries
+
+    -- the bodies by what they tell
+    abbrev pub telling : List (HashAndSize × V) → Told
+    telling entries = map (λ entry. (entry.0, told entry.1)) entries
+
+    copied_map : (o : Option (Bor V)) → option_map (λ body. told body.now) o ≡ option_map told (option_copied o)
+    copied_map (Some v) = refl
+    copied_map None = refl
+
+    -- the body that is found tells what is told of it
+    pub got_body : (d : HashAndSize) (entries : List (HashAndSize × V)) (o : Option (Bor V)) → option_copied o ≡ lookup (same d) entries → option_map (λ body. told body.now) o ≡ told_in (telling entries) d
+    got_body d entries o e = copied_map o ∙ ap (option_map told) e ∙ sym (lookup-map_values told (same d) entries)
+
+    -- where no body is found none is told of
+    pub none_told : (d : HashAndSize) (entries : List (HashAndSize × V)) → lookup (same d) entries ≡ None → is_some (told_in (telling entries) d) ≡ false
+    none_told d entries e = ap is_some (lookup-map_values told (same d) entries ∙ ap (option_map told) e)
+
+    set_by : (b : Bool) (w o : Option V) (p : Option (Option (List ℕ))) → option_map told o ≡ p → option_map told (cond b w o) ≡ (if b then option_map told w else p)
+    set_by true w o p e = refl
+    set_by false w o p e = e
+
+    -- where one body is set or taken out, so is what it tells
+    pub set_told : (digest d : HashAndSize) (w : Option V) (old new : List (HashAndSize × V)) → lookup (same d) new ≡ cond (same digest d) w (lookup (same d) old)
+        → told_in (telling new) d ≡ (if same digest d then option_map told w else told_in (telling old) d)
+    set_told digest d w old new e = lookup-map_values told (same d) new ∙ ap (option_map told) e ∙ set_by (same digest d) w (lookup (same d) old) _ (sym (lookup-map_values told (same d) old))
 
     turned : (o : Option (List ℕ)) (d e : HashAndSize) → d ≡ e → IsBodyOf o e → IsBodyOf o d
     turned (Some bytes) d e is h = is ∙ h
@@ -132,18 +88,6 @@ module _ {V : Type 0} where
     removed_told_by true d e es h rest less = rest
     removed_told_by false d e es h rest less = (h, less)
 
-    told_by : (b : Bool) (e : HashAndSize × V) (o : Option V) (p : Option (Option (List ℕ))) → p ≡ option_map told o → cond b (Some (told e.1)) p ≡ option_map told (cond b (Some e.1) o)
-    told_by true e o p h = refl
-    told_by false e o p h = h
-
-    told_looked : (d : HashAndSize) (entries : List (HashAndSize × V)) → lookup (same d) (map (λ entry. (entry.0, told entry.1)) entries) ≡ option_map told (lookup (same d) entries)
-    told_looked d [] = refl
-    told_looked d (e ∷ es) = told_by (same d e.0) e (lookup (same d) es) _ (told_looked d es)
-
-    -- what the body that is found tells
-    pub told_found : (d : HashAndSize) (entries : List (HashAndSize × V)) (v : V) → lookup (same d) entries ≡ Some v → lookup (same d) (map (λ entry. (entry.0, told entry.1)) entries) ≡ Some (told v)
-    told_found d entries v e = told_looked d entries ∙ ap (option_map told) e
-
     -- one less
     pub removed_told : (d : HashAndSize) (entries : List (HashAndSize × V)) → AreTold entries → AreTold (remove_entry (same d) entries)
     removed_told d [] h = tt
@@ -165,12 +109,43 @@ not_before (x ∷ gone) (suc i) d distinct lt here =
     ∙ not_before gone i d distinct.1 later here
 
 -- a digest that is to go still has its body, after those before it went
-pub still_there : (rows : List Row) (kept : Kept) (gone : List HashAndSize) (i : ℕ) (d : HashAndSize) → AreBodiesOf rows kept → AreRows rows gone → i < length gone → d ≡ get_or gone i d
-    → is_among (filter (λ e. not (is_among (take i gone) e)) kept.digests) d ≡ true
-still_there rows kept gone i d bodies are lt here =
-    among_kept (λ e. not (is_among (take i gone) e)) kept.digests d
-    ∙ ap (λ (b : Bool). b && not (is_among (take i gone) d)) (bodies d ∙ at_place (λ e. has_row rows e ≡ true) gone i d are.there lt here)
-    ∙ ap not (not_before gone i d are.distinct lt here)
+pub still_there : (rows : List Row) (bodies left : Told) (gone : List HashAndSize) (i : ℕ) (d : HashAndSize) → AreBodiesOf rows bodies → AreRows rows gone → i < length gone → d ≡ get_or gone i d
+    → told_in left d ≡ (if is_among (take i gone) d then None else told_in bodies d) → is_some (told_in left d) ≡ true
+still_there rows bodies left gone i d are gone_rows lt here is =
+    ap is_some (is ∙ ap (λ (b : Bool). if b then None else told_in bodies d) (not_before gone i d gone_rows.distinct lt here))
+    ∙ are d ∙ at_place (λ e. has_row rows e ≡ true) gone i d gone_rows.there lt here
+
+first_of_two : (a b : Bool) → a ≡ b → (a || false) ≡ b
+first_of_two true b e = e
+first_of_two false b e = e
+
+joined_or : (a b c e : Bool) → c ≡ (b || e) → (a || c) ≡ ((a || b) || e)
+joined_or true b c e h = refl
+joined_or false b c e h = h
+
+-- the first ones with one more
+among_more : (gone : List HashAndSize) (i : ℕ) (x d : HashAndSize) → i < length gone → x ≡ get_or gone i x → is_among (take (i + 1) gone) d ≡ (is_among (take i gone) d || same d x)
+among_more [] i x d lt here = absurd (omega arith)
+among_more (g ∷ gone) zero x d lt here = first_of_two (same d g) (same d x) (ap (same d) (sym here))
+among_more (g ∷ gone) (suc i) x d lt here =
+    let next : suc i + 1 ≡ suc (i + 1) = omega arith in
+    ap (λ (k : ℕ). is_among (take k (g ∷ gone)) d) next ∙ joined_or (same d g) (is_among (take i gone) d) (is_among (take (i + 1) gone) d) (same d x) (among_more gone i x d (omega arith) here)
+
+gone_by : {X : Type 0} (b c : Bool) (o : Option X) → (if c then None else (if b then None else o)) ≡ (if b || c then None else o)
+gone_by true true o = refl
+gone_by true false o = refl
+gone_by false true o = refl
+gone_by false false o = refl
+
+-- one more body went
+pub gone_more : (gone : List HashAndSize) (i : ℕ) (x d : HashAndSize) (bodies left now : Told) → i < length gone → x ≡ get_or gone i x
+    → told_in left d ≡ (if is_among (take i gone) d then None else told_in bodies d) → told_in now d ≡ (if same x d then None else told_in left d)
+    → told_in now d ≡ (if is_among (take (i + 1) gone) d then None else told_in bodies d)
+gone_more gone i x d bodies left now lt here is one =
+    one ∙ ap (λ (o : Option (Option (List ℕ))). if same x d then None else o) is
+    ∙ ap (λ (b : Bool). if b then None else (if is_among (take i gone) d then None else told_in bodies d)) (same_swap x d)
+    ∙ gone_by (is_among (take i gone) d) (same d x) (told_in bodies d)
+    ∙ ap (λ (b : Bool). if b then None else told_in bodies d) (sym (among_more gone i x d lt here))
 
 more_counted : (i n : ℕ) → counting 1 (counting i n) ≡ counting (i + 1) n
 more_counted zero n = refl

@@ -1,10 +1,9 @@
 -- Digests of rows, and of the bodies that are kept for them.
 use Rattle.std.proofs.Common.{◌≡◌, ℕ, zero, suc, ◌+◌, ◌<◌, Bool, true, false, cond, not, nat_lt, length, ◌||◌, ◌&&◌, List, [], ◌∷◌, ◌++◌, Option, Some, None, is_some, Result, Ok, Err, IfOk, OnErr, refl, sym, ap, subst, ◌∙◌, arith}
-use Rattle.std.specs.Prelude.{filter, find, slice_get}
+use Rattle.std.specs.Prelude.{find, slice_get, if◌then◌else◌}
 use Rattle.std.specs.List.{list_any}
 use Rattle.std.specs.Option.{option_map}
 use Rattle.std.proofs.lemmas.Bool.{or_parts, cond-true}
-use Rattle.std.proofs.lemmas.List.Folds.{list_any-append}
 use Rattle.std.proofs.lemmas.Map.Views.{any-filter_same}
 use Rattle.digest_types.specs.Name.{HashAndSize}
 use Rattle.digest_types.specs.Digest.{digest_of}
@@ -17,18 +16,18 @@ use Rattle.store_core.specs.declared.state.Row.{Row}
 use Rattle.store_core.specs.declared.state.Lease.{Lease}
 use Rattle.store_core.specs.State.{State, same, is_among, is_empty, is_of, is_sound, row_of, others, used, is_of_owner}
 use Rattle.store_core.specs.Pass.{guarded}
-use Rattle.store_core.specs.Step.{step, served, is_opening, is_open, is_here, touched, touched_all, damaged, own_lease, confirmed, released, put, put_over, passed}
+use Rattle.store_core.specs.Step.{step, served, is_opening, is_open, is_here, touched, touched_all, damaged, own_lease, confirmed, released, put, put_over, read, passed}
 use Rattle.store_core.proofs.RowLaws.{IsTurned, turned_touched, turned_touched_all, damaged_row, unsound_if}
 use Rattle.store_core.proofs.Same.{equal_from_same}
+use Rattle.store_core.proofs.Uses.{holding_rows}
 use Rattle.store_core.proofs.Guarding.{same_swap}
-use Rattle.lease_table.specs.Table.{other_digests}
 use Rattle.indexed_core.specs.Events.{moves_bodies}
-use Rattle.indexed_core.specs.Parts.{has_row}
+use Rattle.store_core.specs.State.{has_row}
 use Rattle.indexed_core.specs.Removal.{PutsRow, removed, adds_row, told_gone}
-use Rattle.indexed_core.proofs.JoinedLaws.{among_kept}
 use Rattle.indexed_core.proofs.MachineLaws.{without_none}
 use Rattle.blob_store.specs.Applied.{gives_up_beside, replied_gives_up}
-use Rattle.blob_store.specs.Kept.{Kept, AreBodiesOf}
+use Rattle.blob_store.specs.Bodies.{Sealed}
+use Rattle.blob_store.specs.Kept.{Told, Stocked, told_in, AreBodiesOf, KeepsBodies, keeps_body}
 use Rattle.blob_store.specs.Shelves.{Shelved, discarding}
 
 -- ---- events that move no body
@@ -72,7 +71,8 @@ unfolding served
 served_quiet s owner events.Open quiet = λ d. refl
 served_quiet s owner (events.Put d edges) quiet = absurd cc
 served_quiet s owner (events.Find ds) quiet = by_turned s.rows (touched_all ds s.rows) (turned_touched_all ds s.rows)
-served_quiet s owner (events.Read d) quiet = chosen s.rows (is_here s.rows d) _ _ (by_turned s.rows (touched d s.rows) (turned_touched d s.rows)) (λ e. refl)
+served_quiet s owner (events.Read d) quiet =
+    subst (SameDigests s.rows) (sym (holding_rows owner d (read s d))) (chosen s.rows (is_here s.rows d) _ _ (by_turned s.rows (touched d s.rows) (turned_touched d s.rows)) (λ e. refl))
 served_quiet s owner (events.Lease root kind) quiet = λ d. refl
 served_quiet s owner (events.Confirm id files) quiet = by_confirmed s files (own_lease s owner id)
 served_quiet s owner (events.Release id) quiet = by_released s id (own_lease s owner id)
@@ -124,57 +124,149 @@ repaired_none : (reply : Reply) (gone : List HashAndSize) → length gone ≡ to
 repaired_none reply [] count e = refl
 repaired_none reply (d ∷ gone) count e = let none : told_gone reply ≡ 0 = ap told_gone e in absurd (omega arith)
 
+-- ---- the bodies of the rows
+
+kept_by : {X : Type 0} (b : Bool) (o : Option X) → is_some o ≡ b → o ≡ (if b then o else None)
+kept_by true o e = refl
+kept_by false None e = refl
+kept_by false (Some x) e = absurd cc
+
+-- where just the rows have bodies and none of them changes, each row keeps its own
+pub all_keep : (old new : Stocked) → AreBodiesOf new.state.rows new.bodies → new.bodies ≡ old.bodies → KeepsBodies old new
+all_keep old new are is d =
+    kept_by (has_row new.state.rows d) (told_in new.bodies d) (are d) ∙ ap (λ (bodies : Told). if has_row new.state.rows d then told_in bodies d else None) is
+
+joined_by : {X : Type 0} (b c : Bool) (o : Option X) → (c ≡ true → b ≡ true) → (if c then (if b then o else None) else None) ≡ (if c then o else None)
+joined_by b true o h = ap (λ (x : Bool). if x then o else None) (h refl)
+joined_by b false o h = refl
+
+-- rows that keep their bodies twice
+pub keep_on : (a b c : Stocked) → ((d : HashAndSize) → has_row c.state.rows d ≡ true → has_row b.state.rows d ≡ true) → KeepsBodies a b → KeepsBodies b c → KeepsBodies a c
+keep_on a b c fewer first next d =
+    next d ∙ ap (λ (o : Option (Option (List ℕ))). if has_row c.state.rows d then o else None) (first d)
+    ∙ joined_by (has_row b.state.rows d) (has_row c.state.rows d) (told_in a.bodies d) (fewer d)
+
 -- ---- the bodies after a put
 
-module _ (old : List Row) (kept left : Kept) (gone : List HashAndSize) (bodies : AreBodiesOf old kept) (is : left.digests ≡ filter (λ d. not (is_among gone d)) kept.digests) where
-  -- those that are left when the rows of `gone` went
-  left_among : (d : HashAndSize) → is_among left.digests d ≡ (has_row old d && not (is_among gone d))
-  left_among d =
-      ap (λ (ds : List HashAndSize). is_among ds d) is ∙ among_kept (λ e. not (is_among gone e)) kept.digests d
-      ∙ ap (λ (b : Bool). b && not (is_among gone d)) (bodies d)
+none_by : {X : Type 0} (b : Bool) (o : Option X) → is_some o ≡ false → (if b then None else o) ≡ None
+none_by true o e = refl
+none_by false None e = refl
+none_by false (Some x) e = absurd cc
 
-  -- a digest without a row has no body then
-  pub left_new : (d : HashAndSize) → has_row old d ≡ false → is_among left.digests d ≡ false
-  left_new d e = left_among d ∙ ap (λ (b : Bool). b && not (is_among gone d)) e
+left_by : {X : Type 0} (g h : Bool) (o : Option X) → is_some o ≡ h → (if g then None else o) ≡ (if h && not g then o else None)
+left_by true true o e = refl
+left_by true false o e = refl
+left_by false true o e = refl
+left_by false false None e = refl
+left_by false false (Some x) e = absurd cc
 
-  -- one that is repaired has its body
-  pub left_there : (reply : Reply) (d : HashAndSize) → length gone ≡ told_gone reply → (reply ≡ replies.Repaired → has_row old d ≡ true) → reply ≡ replies.Repaired → is_among left.digests d ≡ true
+-- a put whose body isn't kept adds no row
+none_added : (reply : Reply) (b : Bool) → (keeps_body reply && b) ≡ false → (adds_row reply && b) ≡ false
+none_added (replies.Stored removed used) b e = e
+none_added reply b e = refl
+
+-- the digest of a body that is kept has a row
+kept_row : (reply : Reply) (s h g : Bool) → (reply ≡ replies.Repaired → s ≡ true → (h && not g) ≡ true) → (keeps_body reply && s) ≡ true → ((adds_row reply && s) || (h && not g)) ≡ true
+kept_row (replies.Stored removed used) s h g repaired e = ap (λ (b : Bool). b || (h && not g)) e
+kept_row replies.Repaired s h g repaired e = repaired refl e
+kept_row replies.Present s h g repaired e = absurd cc
+kept_row (replies.Opened owner) s h g repaired e = absurd cc
+kept_row (replies.NoSpace guarded size high) s h g repaired e = absurd cc
+kept_row (replies.Missing ds) s h g repaired e = absurd cc
+kept_row replies.Found s h g repaired e = absurd cc
+kept_row replies.Absent s h g repaired e = absurd cc
+kept_row (replies.Leased lease) s h g repaired e = absurd cc
+kept_row (replies.Stands standing) s h g repaired e = absurd cc
+kept_row replies.Released s h g repaired e = absurd cc
+kept_row replies.Marked s h g repaired e = absurd cc
+kept_row (replies.Passed removed used) s h g repaired e = absurd cc
+kept_row (replies.Used usage) s h g repaired e = absurd cc
+kept_row replies.Closed s h g repaired e = absurd cc
+kept_row replies.Refused s h g repaired e = absurd cc
+
+put_by : {X : Type 0} (b r : Bool) (t : X) (left o : Option X) → (b ≡ false → left ≡ (if r then o else None)) → (if b then Some t else left) ≡ (if b then Some t else (if r then o else None))
+put_by true r t left o e = refl
+put_by false r t left o e = e refl
+
+some_by : {X : Type 0} (b r : Bool) (t : X) (left : Option X) → (b ≡ true → r ≡ true) → (b ≡ false → is_some left ≡ r) → is_some (if b then Some t else left) ≡ r
+some_by true r t left kept other = sym (kept refl)
+some_by false r t left kept other = other refl
+
+and_by : {X : Type 0} (g h : Bool) (o : Option X) → is_some o ≡ h → is_some (if g then None else o) ≡ (h && not g)
+and_by true true o e = refl
+and_by true false o e = refl
+and_by false true o e = e
+and_by false false o e = e
+
+module _ (old : List Row) (bodies left : Told) (gone : List HashAndSize) (are : AreBodiesOf old bodies)
+    (is : (d : HashAndSize) → told_in left d ≡ (if is_among gone d then None else told_in bodies d)) where
+  -- when the rows of `gone` went, a digest without a row has no body
+  pub left_new : (d : HashAndSize) → has_row old d ≡ false → told_in left d ≡ None
+  left_new d e = is d ∙ none_by (is_among gone d) (told_in bodies d) (are d ∙ e)
+
+  -- and one that is repaired has its body
+  pub left_there : (reply : Reply) (d : HashAndSize) → length gone ≡ told_gone reply → (reply ≡ replies.Repaired → has_row old d ≡ true) → reply ≡ replies.Repaired → is_some (told_in left d) ≡ true
   left_there reply d count there e =
-      left_among d ∙ ap (λ (b : Bool). b && not (is_among gone d)) (there e) ∙ ap (λ (ds : List HashAndSize). not (is_among ds d)) (repaired_none reply gone count e)
+      ap is_some (is d ∙ ap (λ (ds : List HashAndSize). if is_among ds d then None else told_in bodies d) (repaired_none reply gone count e)) ∙ are d ∙ there e
 
-  -- and with the body of the put just the rows have bodies
-  pub put_bodies : (digest : HashAndSize) (reply : Reply) (new : List Row) (now : Kept) → PutsRow digest reply gone old new
-      → ((d : HashAndSize) → is_among now.digests d ≡ ((adds_row reply && same digest d) || is_among left.digests d)) → AreBodiesOf new now
-  put_bodies digest reply new now puts h d = h d ∙ ap (λ (b : Bool). (adds_row reply && same digest d) || b) (left_among d) ∙ sym (puts.there d)
+  module _ (blob : Sealed) (reply : Reply) (new : List Row) (now : Told) (puts : PutsRow blob.digest reply gone old new) (there : reply ≡ replies.Repaired → has_row old blob.digest ≡ true)
+      (set : (d : HashAndSize) → told_in now d ≡ (if keeps_body reply && same blob.digest d then Some blob.told else told_in left d)) where
+    repaired_row : (d : HashAndSize) → reply ≡ replies.Repaired → same blob.digest d ≡ true → (has_row old d && not (is_among gone d)) ≡ true
+    repaired_row d e s =
+        ap (λ (ds : List HashAndSize). has_row old d && not (is_among ds d)) (repaired_none reply gone puts.count e)
+        ∙ ap (λ (x : HashAndSize). has_row old x && true) (sym (equal_from_same blob.digest d s)) ∙ ap (λ (b : Bool). b && true) (there e)
 
--- ---- one more body
+    other_row : (d : HashAndSize) → (keeps_body reply && same blob.digest d) ≡ false → has_row new d ≡ (has_row old d && not (is_among gone d))
+    other_row d e = puts.there d ∙ ap (λ (b : Bool). b || (has_row old d && not (is_among gone d))) (none_added reply (same blob.digest d) e)
 
-last_by : (a b : Bool) → (a || (b || false)) ≡ (b || a)
-last_by true true = refl
-last_by true false = refl
-last_by false true = refl
-last_by false false = refl
+    -- with the body of the put just the rows have bodies
+    pub put_bodies : AreBodiesOf new now
+    put_bodies d =
+        ap is_some (set d)
+        ∙ some_by (keeps_body reply && same blob.digest d) (has_row new d) blob.told (told_in left d)
+        (λ e. puts.there d ∙ kept_row reply (same blob.digest d) (has_row old d) (is_among gone d) (repaired_row d) e)
+        (λ e. ap is_some (is d) ∙ and_by (is_among gone d) (has_row old d) (told_in bodies d) (are d) ∙ sym (other_row d e))
 
-pub last_among : (ds : List HashAndSize) (digest : HashAndSize) (d : HashAndSize) → is_among (ds ++ digest ∷ []) d ≡ (same digest d || is_among ds d)
-last_among ds digest d =
-    list_any-append (same d) ds (digest ∷ []) ∙ last_by (is_among ds d) (same d digest) ∙ ap (λ (b : Bool). b || is_among ds d) (same_swap d digest)
+    -- and each other row has the one that it had
+    pub put_keeps : (d : HashAndSize) → told_in now d ≡ (if keeps_body reply && same blob.digest d then Some blob.told else (if has_row new d then told_in bodies d else None))
+    put_keeps d =
+        set d
+        ∙ put_by (keeps_body reply && same blob.digest d) (has_row new d) blob.told (told_in left d) (told_in bodies d)
+        (λ e. is d ∙ left_by (is_among gone d) (has_row old d) (told_in bodies d) (are d) ∙ ap (λ (b : Bool). if b then told_in bodies d else None) (sym (other_row d e)))
 
 -- ---- one row less
 
-turned_and : (a b : Bool) → (a && b) ≡ (b && a)
-turned_and true true = refl
-turned_and true false = refl
-turned_and false true = refl
-turned_and false false = refl
+less_by : {X : Type 0} (s h : Bool) (o : Option X) → is_some o ≡ h → (if s then None else o) ≡ (if not s && h then o else None)
+less_by true h o e = refl
+less_by false true o e = refl
+less_by false false None e = refl
+less_by false false (Some x) e = absurd cc
 
--- where the row of a digest goes with its body, just the rows have bodies
-pub less_bodies : (rows : List Row) (kept now : Kept) (d : HashAndSize) → AreBodiesOf rows kept → now.digests ≡ other_digests d kept.digests → AreBodiesOf (others d rows) now
-less_bodies rows kept now d bodies is e =
-    ap (λ (ds : List HashAndSize). is_among ds e) is
-    ∙ among_kept (λ other. not (same other d)) kept.digests e
-    ∙ ap (λ (b : Bool). b && not (same e d)) (bodies e)
-    ∙ turned_and (has_row rows e) (not (same e d))
-    ∙ sym (any-filter_same (is_of e) (λ (row : Row). not (is_of d row)) (not (same e d)) (λ row t. ap (λ (x : HashAndSize). not (same x d)) (equal_from_same row.digest e t)) rows)
+less_some : {X : Type 0} (s h : Bool) (o : Option X) → is_some o ≡ h → is_some (if s then None else o) ≡ (not s && h)
+less_some true h o e = refl
+less_some false h o e = e
+
+less_row : (rows : List Row) (x d : HashAndSize) → has_row (others x rows) d ≡ (not (same x d) && has_row rows d)
+less_row rows x d =
+    any-filter_same (is_of d) (λ (row : Row). not (is_of x row)) (not (same d x)) (λ row t. ap (λ (y : HashAndSize). not (same y x)) (equal_from_same row.digest d t)) rows
+    ∙ ap (λ (b : Bool). not b && has_row rows d) (same_swap d x)
+
+second : (a b : Bool) → (a && b) ≡ true → b ≡ true
+second true b e = e
+second false b e = absurd cc
+
+-- the rows that are left were there
+pub less_fewer : (rows : List Row) (x d : HashAndSize) → has_row (others x rows) d ≡ true → has_row rows d ≡ true
+less_fewer rows x d e = second (not (same x d)) (has_row rows d) (sym (less_row rows x d) ∙ e)
+
+module _ (rows : List Row) (bodies now : Told) (x : HashAndSize) (are : AreBodiesOf rows bodies) (is : (d : HashAndSize) → told_in now d ≡ (if same x d then None else told_in bodies d)) where
+  -- where the row of a digest goes with its body, just the rows have bodies
+  pub less_bodies : AreBodiesOf (others x rows) now
+  less_bodies d = ap is_some (is d) ∙ less_some (same x d) (has_row rows d) (told_in bodies d) (are d) ∙ sym (less_row rows x d)
+
+  -- and each other row keeps its own
+  pub less_keeps : (d : HashAndSize) → told_in now d ≡ (if has_row (others x rows) d then told_in bodies d else None)
+  less_keeps d = is d ∙ less_by (same x d) (has_row rows d) (told_in bodies d) (are d) ∙ ap (λ (b : Bool). if b then told_in bodies d else None) (sym (less_row rows x d))
 
 -- ---- how many bodies a put gives up
 
@@ -204,10 +296,10 @@ empty_from_here rows d here none = equal_from_same d (digest_of []) (by (is_empt
 -- ---- an event that moves no body
 
 -- just the rows have bodies after it too
-pub step_bodies : {E : Type 0} (old new : State) (kept : Kept) (owner : ℕ) (event : Event) (r : Result Reply E) → moves_bodies event ≡ false → AreBodiesOf old.rows kept
-    → IfOk r (λ reply. (reply, new) ≡ step old owner event) → OnErr r (new ≡ old) → AreBodiesOf new.rows kept
-step_bodies old new kept owner event (Ok reply) quiet bodies ok err = λ d. bodies d ∙ sym (step_quiet old new owner event reply quiet ok d)
-step_bodies old new kept owner event (Err e) quiet bodies ok err = λ d. bodies d ∙ ap (λ (s : State). has_row s.rows d) (sym err)
+pub step_bodies : {E : Type 0} (old new : State) (bodies : Told) (owner : ℕ) (event : Event) (r : Result Reply E) → moves_bodies event ≡ false → AreBodiesOf old.rows bodies
+    → IfOk r (λ reply. (reply, new) ≡ step old owner event) → OnErr r (new ≡ old) → AreBodiesOf new.rows bodies
+step_bodies old new bodies owner event (Ok reply) quiet are ok err = λ d. are d ∙ sym (step_quiet old new owner event reply quiet ok d)
+step_bodies old new bodies owner event (Err e) quiet are ok err = λ d. are d ∙ ap (λ (s : State). has_row s.rows d) (sym err)
 
 -- ---- a pass
 
@@ -232,7 +324,9 @@ pass_step s t owner removes bytes opened is end count =
 
 -- ---- what becomes of the body of a put
 
-pub other_reply : (reply : Reply) → ((removes bytes : ℕ) → reply ≡ replies.Stored removes bytes → ⊥) → (adds_row reply ≡ false) × (gives_up_beside reply ≡ 1)
+-- one that is neither stored nor repairs is given up
+pub other_reply : (reply : Reply) → ((removes bytes : ℕ) → reply ≡ replies.Stored removes bytes → ⊥) → (reply ≡ replies.Repaired → ⊥) → (keeps_body reply ≡ false) × (gives_up_beside reply ≡ 1)
 unfolding gives_up_beside
-other_reply (replies.Stored removes bytes) other = absurd (other removes bytes refl)
-other_reply reply other = (refl, refl)
+other_reply (replies.Stored removes bytes) stored repaired = absurd (stored removes bytes refl)
+other_reply replies.Repaired stored repaired = absurd (repaired refl)
+other_reply reply stored repaired = (refl, refl)

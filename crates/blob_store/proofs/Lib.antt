@@ -1,6 +1,7 @@
 pub mod BenchCalls
 pub mod BenchLaws
 pub mod BenchSteps
+pub mod FillingLemmas
 pub mod KeptBodies
 pub mod KeptRows
 pub mod MemoryLemmas

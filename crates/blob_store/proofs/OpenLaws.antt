@@ -8,7 +8,7 @@ use Rattle.store_core.specs.declared.event.Event.{Event}
 use Rattle.store_core.specs.declared.event.Event.TheVariants as events
 use Rattle.store_core.specs.declared.event.Reply.{Reply}
 use Rattle.store_core.specs.declared.event.Reply.TheVariants as replies
-use Rattle.store_core.specs.State.{State, is_of_owner}
+use Rattle.store_core.specs.State.{State, is_of_owner, other_holds}
 use Rattle.store_core.specs.Step.{is_open, closed, served, step}
 use Rattle.store_core.specs.History.{Entry, state, IsNumbered, IsLegalAt, Legal, own}
 use Rattle.store_core.proofs.Entries.{step_served}
@@ -49,8 +49,8 @@ any_filter_same o (first ∷ owners) = goes_by o first (filter (λ x. not (nat_e
 -- ---- one entry
 
 closes_by : (s : State) (owner : ℕ) (reply : Reply) (b : Bool)
-    → reply ≡ (cond {A = Reply × State} b (replies.Refused, s) (replies.Closed, record s { owners = filter (λ o. not (nat_eq o owner)) s.owners })).0 → reply ≢ replies.Refused
-    → (cond {A = Reply × State} b (replies.Refused, s) (replies.Closed, record s { owners = filter (λ o. not (nat_eq o owner)) s.owners })).1.owners ≡ filter (λ o. not (nat_eq o owner)) s.owners
+    → reply ≡ (cond {A = Reply × State} b (replies.Refused, s) (replies.Closed, record s { owners = filter (λ o. not (nat_eq o owner)) s.owners; holds = other_holds owner s.holds })).0 → reply ≢ replies.Refused
+    → (cond {A = Reply × State} b (replies.Refused, s) (replies.Closed, record s { owners = filter (λ o. not (nat_eq o owner)) s.owners; holds = other_holds owner s.holds })).1.owners ≡ filter (λ o. not (nat_eq o owner)) s.owners
 closes_by s owner reply true e h = absurd (h e)
 closes_by s owner reply false e h = refl
 

@@ -1,11 +1,13 @@
 -- Pieces of a body that are taken one behind another.
-use Rattle.std.proofs.Common.{◌≡◌, ◌+◌, ◌≤◌, ℕ, List, length, take, drop, ◌++◌, Option, Some, None, IfSome, Result, Ok, Err, OnErr, sym, ap, ◌∙◌, arith}
+use Rattle.std.proofs.Common.{◌≡◌, ◌+◌, ◌≤◌, ◌^◌, ℕ, List, length, take, drop, ◌++◌, Option, Some, None, IfSome, Result, Ok, Err, OnErr, sym, ap, subst, ◌∙◌, arith}
 use Rattle.std.proofs.Math.Seq.{take-add}
-use Rattle.std.proofs.lemmas.List.{length-append, length-take-le, take-append-le}
+use Rattle.std.proofs.lemmas.List.{length-append, length-take-le, take-append-le, take_all}
 use Rattle.digest_types.specs.Name.{HashAndSize}
 use Rattle.digest_types.specs.Digest.{digest_of}
 use Rattle.digest_types.specs.Hasher.{Holds}
 use Rattle.digest_types.specs.declared.hasher.Hasher.{Hasher}
+use Rattle.blob_store.specs.Bodies.{ReadingState, Explains, limit_of}
+use Rattle.blob_store.specs.declared.reading.ReadingEnd.TheVariants.{Damaged}
 use Rattle.blob_store.specs.Taking.{IsPlace, TakesPiece, TakesPart}
 
 -- the first bytes, and then those at their end
@@ -41,3 +43,12 @@ unfolding digest_of
 fits_by_digest want hasher told at place same =
     let size : length place.read ≡ want.size = ap (λ (d : HashAndSize). d.size) (same place.read place.taken.hash) in
     omega (arith, place.len)
+
+-- a body that tells bytes of the digest that is wanted isn't damaged
+pub told_end_well : (reading : ReadingState) (bytes : List ℕ) (want got : HashAndSize) → reading.told ≡ Some bytes → digest_of bytes ≡ reading.want → reading.want.size ≤ 2 ^ 60 → Explains reading (Damaged want got) → ⊥
+unfolding digest_of
+told_end_well reading bytes want got told same size damage =
+    let count : length bytes ≡ reading.want.size = ap (λ (d : HashAndSize). d.size) same in
+    let whole : take (limit_of reading.want) bytes ≡ bytes = take_all (limit_of reading.want) bytes (omega arith) in
+    let read : got ≡ digest_of (take (limit_of reading.want) bytes) = subst (λ (o : Option (List ℕ)). IfSome o (λ all. got ≡ digest_of (take (limit_of reading.want) all))) told damage.all in
+    damage.other (read ∙ ap digest_of whole ∙ same ∙ sym damage.same)

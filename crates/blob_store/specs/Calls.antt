@@ -1,6 +1,7 @@
 -- The answers of a door's calls, by the replies.
-use Rattle.std.specs.Prelude.{◌≡◌, ℕ, [], Option, Some, None, Result, Ok, Err}
+use Rattle.std.specs.Prelude.{◌≡◌, ℕ, [], Option, Some, None, IfSome, Result, Ok, Err}
 use Rattle.digest_types.specs.Name.{HashAndSize}
+use Rattle.digest_types.specs.Digest.{digest_of}
 use Rattle.store_core.specs.declared.event.Reply.{Reply}
 use Rattle.store_core.specs.declared.event.Reply.TheVariants as replies
 use Rattle.blob_store.specs.Bodies.{ReadingState, HasRead}
@@ -31,8 +32,9 @@ abbrev pub read_reply : Option ReadingState → Reply
 read_reply None = replies.Absent
 read_reply (Some reading) = replies.Found
 
--- a reading of this digest of which nothing was read
+-- A reading of this digest of which nothing was read. Where it tells its bytes, they have the digest.
 pub record Begins (digest : HashAndSize) (reading : ReadingState) : Type 0 where
   pub want : reading.want ≡ digest
   pub going : reading.end ≡ None
   pub begun : HasRead reading []
+  pub told : IfSome reading.told (λ bytes. digest_of bytes ≡ digest)

@@ -39,6 +39,10 @@ after_fault s = record s { calls = counted s.calls; faults = counted s.faults }
 abbrev pub after_lost : MemState → MemState
 after_lost s = record s { calls = counted s.calls; faults = counted s.faults; dropped = counted s.dropped }
 
+-- a draft was given up
+abbrev pub after_drop : MemState → MemState
+after_drop s = record s { dropped = counted s.dropped }
+
 -- a body was given up
 abbrev pub after_discard : MemState → MemState
 after_discard s = record s { discarded = counted s.discarded }

@@ -6,7 +6,7 @@ ghost use Rattle.store_core.specs.History.{leases_of};
 ghost use Rattle.store_core.specs.Step.{usage as usage_of};
 ghost use Rattle.store_core.specs.declared.event.Event.TheVariants as events;
 ghost use Rattle.store_core.specs.declared.event.Reply.TheVariants as replies;
-ghost use Rattle.indexed_core.specs.Events.{takes_memory};
+ghost use Rattle.store_core.specs.Memory.{takes_memory};
 ghost use Rattle.blob_store.specs.Asked.{MayAsk, IsAnswer};
 ghost use Rattle.blob_store.specs.Benched.{new_bench, seat_of, store_of, view_of};
 ghost use Rattle.blob_store.specs.View.{IsSeated, IsSound, Makes, Waits, Enters, StaysOut, Leaves, MayCall, own_now, holds};
@@ -46,7 +46,7 @@ impl<K: Shelf> Model for Bench<K> {
 
     ghost view = { λ b. record { start = b.diary.start; seen = b.diary.seen; seats = b.seats.items; chosen = b.chosen } };
 
-    ghost invariant = { λ b. IsBench b.store (record { start = b.diary.start; seen = b.diary.seen; seats = b.seats.items; chosen = b.chosen }) };
+    ghost invariant = { λ b. IsBench b.store.state (record { start = b.diary.start; seen = b.diary.seen; seats = b.seats.items; chosen = b.chosen }) };
 }
 
 impl<K: Shelf> Bench<K> {
@@ -54,10 +54,10 @@ impl<K: Shelf> Bench<K> {
     pub fn new(alloc: Global, store: Store<K>, seats: usize) -> Result<Bench<K>, OutOfMemory>
         requires some { 1 ≤ seats }
         requires few { seats ≤ 100 }
-        requires valid { Valid store }
-        requires owners { store.next_owner ≤ 2 ^ 62 }
-        requires leases { store.next_lease ≤ 2 ^ 62 }
-        ensures { IfOk result (λ b. b ≡ new_bench store seats) }
+        requires valid { Valid store.state }
+        requires owners { store.state.next_owner ≤ 2 ^ 62 }
+        requires leases { store.state.next_lease ≤ 2 ^ 62 }
+        ensures { IfOk result (λ b. b ≡ new_bench store.state seats) }
     {
         let diary = Diary::new(alloc, &store)?;
         let seats = vec![in alloc; Seat::empty(); seats]?;
@@ -111,7 +111,7 @@ impl<K: Shelf> Bench<K> {
         ensures made { IfOk result (λ r. Makes (view_of self.old) (view_of self.new) event.now r) }
         ensures answer { IfOk result (λ r. IsAnswer (store_of self.old) event.now r) }
         ensures err { OnErr result (Waits (view_of self.old) (view_of self.new)) }
-        ensures free { takes_memory event.now ≡ false → IsOk result }
+        ensures free { takes_memory (store_of self.old).guard event.now ≡ false → IsOk result }
     {
         let owner = self.owner();
         note(&mut self.store, &mut self.diary, owner, event)
@@ -121,7 +121,7 @@ impl<K: Shelf> Bench<K> {
     fn ask_freely(&mut self, event: &Event) -> Reply
         requires call { MayCall (view_of self.old) }
         requires may { MayAsk (view_of self.old) event.now }
-        requires free { takes_memory event.now ≡ false }
+        requires free { takes_memory (store_of self.old).guard event.now ≡ false }
         ensures made { Makes (view_of self.old) (view_of self.new) event.now result }
         ensures answer { IsAnswer (store_of self.old) event.now result }
     {
@@ -217,7 +217,7 @@ impl<K: Shelf> Door<K> for Bench<K> {
     {
         // It is opened before the entry is made, since a call that fails makes none.
         let reading = self.store.reading(shelf, digest)?;
-        self.ask_freely(&Event::Read { digest: *digest });
+        self.ask(&Event::Read { digest: *digest })?;
         Ok(reading)
     }
 

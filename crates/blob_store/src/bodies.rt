@@ -1,12 +1,12 @@
 //! `Bodies`.
 
-ghost use Rattle.std.specs.Prelude.{◌≡◌, ◌<◌, ◌≤◌, ◌++◌, ◌∷◌, [], not, filter, length, List, false, true, is_some, Some, IfSome, OnOk};
+ghost use Rattle.std.specs.Prelude.{◌≡◌, ◌<◌, ◌≤◌, [], length, List, true, is_some, Some, None, IfSome, OnOk, option_map, if◌then◌else◌};
+ghost use Rattle.digest_types.specs.Name.{HashAndSize};
 ghost use Rattle.digest_types.specs.Digest.{digest_of};
 ghost use Rattle.store_core.specs.State.{same, is_among};
 ghost use Rattle.store_core.specs.declared.state.Row.{Row};
-ghost use Rattle.lease_table.specs.Table.{other_digests};
 ghost use Rattle.indexed_core.specs.Removal.{AreRows};
-ghost use Rattle.blob_store.specs.Kept.{AreBodiesOf, told_of};
+ghost use Rattle.blob_store.specs.Kept.{AreBodiesOf, told_in};
 ghost use Rattle.blob_store.specs.Shelves.{discarding};
 
 use crate::shelf::Shelf;
@@ -34,7 +34,6 @@ impl<K: Shelf> Model for Bodies<K> {
     ghost Value = { Kept };
 
     ghost view = { λ b. record {
-      digests = map (λ entry. entry.0) b.bodies.entries;
       bodies = map (λ entry. (entry.0, K.kept entry.1)) b.bodies.entries;
       room = spare b.bodies;
     } };
@@ -46,7 +45,7 @@ impl<K: Shelf> Model for Bodies<K> {
 impl<K: Shelf> Bodies<K> {
     /// No bodies. It takes no memory.
     pub(crate) fn new(alloc: Global) -> Bodies<K>
-        ensures { result.digests ≡ [] }
+        ensures { result.bodies ≡ [] }
     {
         Bodies {
             bodies: IndexMap::new(alloc),
@@ -55,7 +54,7 @@ impl<K: Shelf> Bodies<K> {
 
     /// The body of a digest.
     pub(crate) fn get(&self, digest: &Digest) -> Option<&K::Body>
-        ensures there { is_some result ≡ is_among self.now.digests digest.now }
+        ensures body { option_map (λ body. K.kept body.now) result ≡ told_in self.now.bodies digest.now }
         ensures told { IfSome result (λ body. IfSome (K.kept body.now) (λ bytes. digest.now ≡ digest_of bytes)) }
     {
         self.bodies.get(digest)
@@ -63,7 +62,7 @@ impl<K: Shelf> Bodies<K> {
 
     /// Makes room for one more.
     pub(crate) fn reserve(&mut self) -> Result<(), OutOfMemory>
-        ensures same { self.new.digests ≡ self.old.digests }
+        ensures same { self.new.bodies ≡ self.old.bodies }
         ensures room { OnOk result (0 < self.new.room) }
     {
         self.bodies.reserve(1)?;
@@ -73,10 +72,9 @@ impl<K: Shelf> Bodies<K> {
     /// Keeps the body of a digest that has none. It takes no memory.
     pub(crate) fn add(&mut self, digest: Digest, body: K::Body)
         requires room { 0 < self.old.room }
-        requires new { is_among self.old.digests digest ≡ false }
+        requires new { told_in self.old.bodies digest ≡ None }
         requires told { IfSome (K.kept body) (λ bytes. digest ≡ digest_of bytes) }
-        ensures digests { self.new.digests ≡ self.old.digests ++ digest ∷ [] }
-        ensures body { told_of self.new digest ≡ Some (K.kept body) }
+        ensures { (d : HashAndSize) → told_in self.new.bodies d ≡ (if same digest d then Some (K.kept body) else told_in self.old.bodies d) }
     {
         match self.bodies.insert(digest, body) {
             Ok(_) => {}
@@ -86,10 +84,9 @@ impl<K: Shelf> Bodies<K> {
 
     /// Keeps another body for a digest, and gives up the one that it had. It takes no memory.
     pub(crate) fn replace(&mut self, shelf: &mut K, digest: Digest, body: K::Body)
-        requires there { is_among self.old.digests digest ≡ true }
+        requires there { is_some (told_in self.old.bodies digest) ≡ true }
         requires told { IfSome (K.kept body) (λ bytes. digest ≡ digest_of bytes) }
-        ensures digests { self.new.digests ≡ self.old.digests }
-        ensures body { told_of self.new digest ≡ Some (K.kept body) }
+        ensures bodies { (d : HashAndSize) → told_in self.new.bodies d ≡ (if same digest d then Some (K.kept body) else told_in self.old.bodies d) }
         ensures shelf { K.shelved shelf.new ≡ discarding 1 (K.shelved shelf.old) }
     {
         match self.bodies.insert(digest, body) {
@@ -101,8 +98,8 @@ impl<K: Shelf> Bodies<K> {
 
     /// Gives up the body of a digest. It takes no memory.
     pub(crate) fn give_up(&mut self, shelf: &mut K, digest: &Digest)
-        requires { is_among self.old.digests digest.now ≡ true }
-        ensures digests { self.new.digests ≡ other_digests digest.now self.old.digests }
+        requires { is_some (told_in self.old.bodies digest.now) ≡ true }
+        ensures bodies { (d : HashAndSize) → told_in self.new.bodies d ≡ (if same digest.now d then None else told_in self.old.bodies d) }
         ensures room { self.old.room ≤ self.new.room }
         ensures shelf { K.shelved shelf.new ≡ discarding 1 (K.shelved shelf.old) }
     {
@@ -114,8 +111,8 @@ impl<K: Shelf> Bodies<K> {
 
     /// Gives up the bodies of these rows. It takes no memory.
     pub(crate) fn give_up_all(&mut self, shelf: &mut K, gone: &[Digest])
-        requires { (rows : List Row) × AreBodiesOf rows self.old × AreRows rows gone.now }
-        ensures digests { self.new.digests ≡ filter (λ d. not (is_among gone.now d)) self.old.digests }
+        requires { (rows : List Row) × AreBodiesOf rows self.old.bodies × AreRows rows gone.now }
+        ensures bodies { (d : HashAndSize) → told_in self.new.bodies d ≡ (if is_among gone.now d then None else told_in self.old.bodies d) }
         ensures room { 0 < self.old.room → 0 < self.new.room }
         ensures shelf { K.shelved shelf.new ≡ discarding (length gone.now) (K.shelved shelf.old) }
     {

@@ -1,6 +1,8 @@
-//! What holds of a seat's view alone, for callers of any door.
+//! What holds of a seat's view alone, for callers of any door, and of a reading.
 
-ghost use Rattle.std.specs.Prelude.{◌≡◌, ◌≢◌, ◌<◌, ◌≤◌, ◌+◌, ◌++◌, ◌∷◌, ℕ, true, false, List, [], length, slice_set, Some};
+ghost use Rattle.std.specs.Prelude.{◌≡◌, ◌≢◌, ◌<◌, ◌≤◌, ◌+◌, ◌^◌, ◌++◌, ◌∷◌, ℕ, true, false, List, [], length, slice_set, Some};
+ghost use Rattle.digest_types.specs.Name.{HashAndSize};
+ghost use Rattle.digest_types.specs.Digest.{digest_of};
 ghost use Rattle.store_core.specs.declared.event.Event.{Event};
 ghost use Rattle.store_core.specs.declared.event.Event.TheVariants as events;
 ghost use Rattle.store_core.specs.declared.event.Reply.{Reply};
@@ -10,6 +12,8 @@ ghost use Rattle.store_core.specs.History.{Entry, state, own, leases_of};
 ghost use Rattle.turn_lock.specs.Noted.{entry};
 ghost use Rattle.turn_lock.specs.Views.{Extends};
 ghost use Rattle.blob_store.specs.View.{View, IsSound, IsOwn, Turns, Makes, Waits, Enters, StaysOut, Leaves, state_of, own_now};
+ghost use Rattle.blob_store.specs.Bodies.{ReadingState, Explains};
+ghost use Rattle.blob_store.specs.declared.reading.ReadingEnd.TheVariants.{Damaged};
 ghost use Rattle.blob_store.specs.Benched.{Benched, IsAtStep, store_of, seat_of, view_of, seated, unseated_now};
 
 /// Calls one after the other make their entries in that order, in so many turns together.
@@ -44,4 +48,10 @@ pub fn bench_goes_by_steps()
     ensures stays_out { (old new : Benched) → old.chosen < length old.seats → (seat_of old).entered ≡ false → StaysOut (view_of old) (view_of new) → new ≡ old }
     ensures leaves { (old new : Benched) (owner : ℕ) → old.chosen < length old.seats → IsSound (view_of new) → Leaves (view_of old) (view_of new) → (seat_of old).owner ≡ Some owner
         → IsAtStep old new owner events.Close replies.Closed × (new.seats ≡ slice_set old.seats old.chosen (unseated_now owner)) }
+{}
+
+/// A reading of a body that tells bytes of the digest that is wanted doesn't end in Damaged.
+pub fn told_readings_end_well()
+    ensures { (reading : ReadingState) (bytes : List ℕ) (want got : HashAndSize) → reading.told ≡ Some bytes → digest_of bytes ≡ reading.want → reading.want.size ≤ 2 ^ 60
+        → Explains reading (Damaged want got) → ⊥ }
 {}

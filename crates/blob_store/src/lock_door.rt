@@ -11,7 +11,8 @@ ghost use Rattle.blob_store.specs.Rings.{ring_mark, is_over, rings_for, rings_by
 ghost use Rattle.blob_store.specs.View.{IsSeated, IsSound, Makes, Waits, Enters, StaysOut, Leaves, MayCall, own_now, holds};
 ghost use Rattle.blob_store.specs.Shelves.{Stays, HasShelfCause, discarding};
 ghost use Rattle.blob_store.specs.Calls.{put_reply, put_discards, read_reply, Begins, IsPutReply};
-ghost use Rattle.indexed_core.specs.Events.{takes_memory};
+ghost use Rattle.store_core.specs.Memory.{takes_memory};
+ghost use Rattle.store_core.specs.declared.state.Guard.TheVariants as guards;
 
 use crate::bench::{put_answer, put_event};
 use crate::checked::Checked;
@@ -127,7 +128,7 @@ impl<'a, K: Shelf, R: Wait, G: Gate> LockDoor<'a, K, R, G> {
         ensures made { IfOk result (λ r. Makes self.old.view self.new.view event.now r) }
         ensures answer { IfOk result (λ r. (s : State) × IsAnswer s event.now r) }
         ensures err { OnErr result (Waits self.old.view self.new.view) }
-        ensures free { takes_memory event.now ≡ false → IsOk result }
+        ensures free { takes_memory guards.Session event.now ≡ false → IsOk result }
         ensures rings { self.new.rings ≡ self.old.rings }
     {
         ask_in_turn(self.rt, self.lock, &mut self.seat, event)
@@ -137,7 +138,7 @@ impl<'a, K: Shelf, R: Wait, G: Gate> LockDoor<'a, K, R, G> {
     fn ask_freely(&mut self, event: &Event) -> Reply
         requires call { MayCall self.old.view }
         requires may { MayAsk self.old.view event.now }
-        requires free { takes_memory event.now ≡ false }
+        requires free { takes_memory guards.Session event.now ≡ false }
         ensures made { Makes self.old.view self.new.view event.now result }
         ensures answer { (s : State) × IsAnswer s event.now result }
         ensures rings { self.new.rings ≡ self.old.rings }

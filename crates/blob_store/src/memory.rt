@@ -1,9 +1,9 @@
 //! `MemShelf`, the double in memory.
 
-ghost use Rattle.std.specs.Prelude.{◌≡◌, ◌≤◌, ◌^◌, ◌↔◌, ◌++◌, if◌then◌else◌, [], length, take, drop, Some, Contains, IsTrue, IsErr, IsErrOf, IfOk, IfErr, OnOk, OnErr};
+ghost use Rattle.std.specs.Prelude.{◌≡◌, ◌≤◌, ◌^◌, ◌↔◌, ◌++◌, if◌then◌else◌, [], length, take, drop, Some, Contains, IsTrue, IsErr, IsErrOf, IfOk, IfErr, IfSome, OnOk, OnErr};
 ghost use Rattle.std.proofs.Common.{arith};
-ghost use Rattle.casd_base.specs.Memory.{counted};
-ghost use Rattle.blob_store.specs.Memory.{MemState, shelved_of, after_call, after_fault, after_lost, after_draft, after_found, raised_first, body_of, reader_of, first_body, told_if, given_at};
+ghost use Rattle.blob_store.specs.Shelves.{Stays, Finds, dropping};
+ghost use Rattle.blob_store.specs.Memory.{MemState, shelved_of, after_call, after_fault, after_lost, after_draft, after_drop, after_discard, after_found, raised_first, body_of, reader_of, first_body, told_if, given_at};
 ghost use Rattle.blob_store.specs.declared.shelf.ShelfEnd.TheVariants.{Failed as Fault, OutOfMemory as NoMemory};
 
 use crate::shelf::{Shelf, ShelfEnd};
@@ -222,7 +222,7 @@ impl MemShelf {
 
     // Gives a draft up, and counts it.
     fn drop_one(&mut self, draft: MemDraft)
-        ensures { self.new ≡ record self.old { dropped = counted self.old.dropped } }
+        ensures { self.new ≡ after_drop self.old }
     {
         drop(draft);
         self.dropped = self.dropped.saturating_add(1);
@@ -307,46 +307,91 @@ impl Shelf for MemShelf {
     ghost lent = { λ r. told_if r.told r.bytes };
 
     #[tactic(auto, using(crate::proofs::MemoryLemmas::stays_draft, crate::proofs::MemoryLemmas::some_fails))]
-    fn draft(&mut self) -> Result<MemDraft, ShelfEnd> {
+    fn draft(&mut self) -> Result<MemDraft, ShelfEnd>
+        ensures fails { IsErr result ↔ Contains self.old.failing self.old.calls }
+        ensures made { IfOk result (λ d. d.bytes ≡ []) }
+        ensures spoilt { IfOk result (λ d. IsTrue d.spoilt ↔ Contains self.old.spoilt self.old.drafts) }
+        ensures ok { OnOk result (self.new ≡ after_draft self.old) }
+        ensures fault { IfErr result (λ e. e ≡ Fault) }
+        ensures err { OnErr result (self.new ≡ after_fault self.old) }
+        ensures stays { Stays (shelved_of self.old) (shelved_of self.new) }
+    {
         self.next_draft()
     }
 
     #[tactic(auto, using(crate::proofs::MemoryLemmas::stays_memory, crate::proofs::MemoryLemmas::some_fails))]
-    fn append(&mut self, draft: &mut MemDraft, bytes: &[u8]) -> Result<(), ShelfEnd> {
+    fn append(&mut self, draft: &mut MemDraft, bytes: &[u8]) -> Result<(), ShelfEnd>
+        ensures fails { IsErrOf result Fault ↔ Contains self.old.failing self.old.calls }
+        ensures added { OnOk result (draft.new ≡ record draft.old { bytes = draft.old.bytes ++ bytes.now }) }
+        ensures same { OnErr result (draft.new ≡ draft.old) }
+        ensures done { OnOk result (self.new ≡ after_call self.old) }
+        ensures fault { IsErrOf result Fault → self.new ≡ after_fault self.old }
+        ensures memory { IsErrOf result NoMemory → self.new ≡ after_call self.old }
+        ensures stays { Stays (shelved_of self.old) (shelved_of self.new) }
+    {
         self.next_append(draft, bytes)
     }
 
     #[tactic(auto, using(crate::proofs::MemoryLemmas::stays_seal, crate::proofs::MemoryLemmas::loses_seal, crate::proofs::MemoryLemmas::some_fails))]
-    fn seal(&mut self, draft: MemDraft) -> Result<MemBody, ShelfEnd> {
+    fn seal(&mut self, draft: MemDraft) -> Result<MemBody, ShelfEnd>
+        ensures fails { IsErr result ↔ Contains self.old.failing self.old.calls }
+        ensures sealed { IfOk result (λ b. b ≡ body_of draft) }
+        ensures done { OnOk result (self.new ≡ after_call self.old) }
+        ensures fault { IfErr result (λ e. e ≡ Fault) }
+        ensures lost { OnErr result (self.new ≡ after_lost self.old) }
+        ensures err { OnErr result (Stays (dropping (shelved_of self.old)) (shelved_of self.new)) }
+    {
         self.next_seal(draft)
     }
 
     #[tactic(auto, using(crate::proofs::MemoryLemmas::stays_memory, crate::proofs::MemoryLemmas::some_fails))]
-    fn reader(&mut self, body: &MemBody) -> Result<MemReader, ShelfEnd> {
+    fn reader(&mut self, body: &MemBody) -> Result<MemReader, ShelfEnd>
+        ensures fails { IsErrOf result Fault ↔ Contains self.old.failing self.old.calls }
+        ensures made { IfOk result (λ r. r ≡ reader_of body.now) }
+        ensures done { OnOk result (self.new ≡ after_call self.old) }
+        ensures fault { IsErrOf result Fault → self.new ≡ after_fault self.old }
+        ensures memory { IsErrOf result NoMemory → self.new ≡ after_call self.old }
+        ensures stays { Stays (shelved_of self.old) (shelved_of self.new) }
+    {
         self.next_reader(body)
     }
 
     #[tactic(auto, using(crate::proofs::MemoryLemmas::stays_call, crate::proofs::MemoryLemmas::some_fails))]
-    fn read_at(
-        &mut self,
-        reader: &mut MemReader,
-        at: u64,
-        buf: &mut [u8],
-    ) -> Result<usize, Failed> {
+    fn read_at(&mut self, reader: &mut MemReader, at: u64, buf: &mut [u8]) -> Result<usize, Failed>
+        ensures fails { IsErr result ↔ Contains self.old.failing self.old.calls }
+        ensures count { IfOk result (λ n. n ≡ given_at reader.old.bytes at (length buf.new)) }
+        ensures given { IfOk result (λ n. take n buf.new ≡ take n (drop at reader.old.bytes)) }
+        ensures same { reader.new ≡ reader.old }
+        ensures done { OnOk result (self.new ≡ after_call self.old) }
+        ensures err { OnErr result (self.new ≡ after_fault self.old) }
+        ensures stays { Stays (shelved_of self.old) (shelved_of self.new) }
+    {
         self.next_read(reader, at, buf)
     }
 
-    fn discard(&mut self, body: MemBody) {
+    fn discard(&mut self, body: MemBody)
+        ensures { self.new ≡ after_discard self.old }
+    {
         drop(body);
         self.discarded = self.discarded.saturating_add(1);
     }
 
-    fn drop_draft(&mut self, draft: MemDraft) {
+    fn drop_draft(&mut self, draft: MemDraft)
+        ensures { self.new ≡ after_drop self.old }
+    {
         self.drop_one(draft);
     }
 
     #[tactic(auto, using(crate::proofs::MemoryLemmas::finds_first, crate::proofs::MemoryLemmas::some_fails))]
-    fn next_found(&mut self) -> Result<Option<MemBody>, ShelfEnd> {
+    fn next_found(&mut self) -> Result<Option<MemBody>, ShelfEnd>
+        ensures fails { IsErr result ↔ Contains self.old.failing self.old.calls }
+        ensures first { IfOk result (λ o. o ≡ first_body self.old.found) }
+        ensures ok { OnOk result (self.new ≡ after_found self.old) }
+        ensures fault { IfErr result (λ e. e ≡ Fault) }
+        ensures lost { OnErr result (self.new ≡ after_fault self.old) }
+        ensures found { IfOk result (λ o. IfSome o (λ b. Finds (shelved_of self.old) (shelved_of self.new) (told_if b.told b.bytes))) }
+        ensures later { self.old.faults ≤ self.new.faults }
+    {
         self.next_body()
     }
 

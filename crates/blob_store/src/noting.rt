@@ -2,7 +2,8 @@
 
 ghost use Rattle.std.specs.Prelude.{◌≡◌, false, Ok, IfOk, OnErr, IsOk};
 ghost use Rattle.store_core.specs.declared.event.Event.TheVariants as events;
-ghost use Rattle.indexed_core.specs.Events.{moves_bodies, takes_memory};
+ghost use Rattle.indexed_core.specs.Events.{moves_bodies};
+ghost use Rattle.store_core.specs.Memory.{takes_memory};
 ghost use Rattle.blob_store.specs.Applied.{put_gives_up, passed_gives_up};
 ghost use Rattle.blob_store.specs.Noted.{MayNote, IsDone, IsUndone};
 ghost use Rattle.blob_store.specs.Shelves.{discarding};
@@ -24,10 +25,10 @@ pub(crate) fn note<K: Shelf>(
     event: &Event,
 ) -> Result<Reply, OutOfMemory>
     requires quiet { moves_bodies event.now ≡ false }
-    requires may { MayNote store.old diary.old owner event.now }
-    ensures ok { IfOk result (IsDone store.old store.new diary.old diary.new owner event.now) }
-    ensures err { OnErr result (IsUndone store.old store.new diary.old diary.new) }
-    ensures free { takes_memory event.now ≡ false → IsOk result }
+    requires may { MayNote store.old.state diary.old owner event.now }
+    ensures ok { IfOk result (IsDone store.old.state store.new.state diary.old diary.new owner event.now) }
+    ensures err { OnErr result (IsUndone store.old.state store.new.state diary.old diary.new) }
+    ensures free { takes_memory store.old.state.guard event.now ≡ false → IsOk result }
 {
     let reply = store.step(owner, event)?;
     diary.note(owner, event, &reply);
@@ -42,9 +43,9 @@ pub(crate) fn note_freely<K: Shelf>(
     event: &Event,
 ) -> Reply
     requires quiet { moves_bodies event.now ≡ false }
-    requires free { takes_memory event.now ≡ false }
-    requires may { MayNote store.old diary.old owner event.now }
-    ensures { IsDone store.old store.new diary.old diary.new owner event.now result }
+    requires free { takes_memory store.old.state.guard event.now ≡ false }
+    requires may { MayNote store.old.state diary.old owner event.now }
+    ensures { IsDone store.old.state store.new.state diary.old diary.new owner event.now result }
 {
     match note(store, diary, owner, event) {
         Ok(reply) => reply,
@@ -62,9 +63,9 @@ pub(crate) fn note_put<K: Shelf>(
     event: &Event,
 ) -> Result<Reply, OutOfMemory>
     requires event { event.now ≡ events.Put blob.digest blob.edges }
-    requires may { MayNote store.old diary.old owner event.now }
-    ensures ok { IfOk result (IsDone store.old store.new diary.old diary.new owner event.now) }
-    ensures err { OnErr result (IsUndone store.old store.new diary.old diary.new) }
+    requires may { MayNote store.old.state diary.old owner event.now }
+    ensures ok { IfOk result (IsDone store.old.state store.new.state diary.old diary.new owner event.now) }
+    ensures err { OnErr result (IsUndone store.old.state store.new.state diary.old diary.new) }
     ensures shelf { K.shelved shelf.new ≡ discarding (put_gives_up result) (K.shelved shelf.old) }
 {
     let reply = store.put(shelf, owner, blob)?;
@@ -79,8 +80,8 @@ pub(crate) fn note_pass<K: Shelf>(
     shelf: &mut K,
     owner: u64,
 ) -> Reply
-    requires { MayNote store.old diary.old owner events.Pass }
-    ensures done { IsDone store.old store.new diary.old diary.new owner events.Pass result }
+    requires { MayNote store.old.state diary.old owner events.Pass }
+    ensures done { IsDone store.old.state store.new.state diary.old diary.new owner events.Pass result }
     ensures shelf { K.shelved shelf.new ≡ discarding (passed_gives_up result) (K.shelved shelf.old) }
 {
     let reply = store.pass(shelf, owner);

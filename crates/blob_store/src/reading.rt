@@ -3,7 +3,7 @@
 ghost use Rattle.std.specs.Prelude.{◌≡◌, ◌<◌, ◌≤◌, ℕ, List, [], length, take, Some, None, Err, IfOk, IfErr, IfSome, OnOk, OnErr, IsErrOf, IfNone};
 ghost use Rattle.digest_types.specs.Digest.{digest_of};
 ghost use Rattle.blob_store.specs.Shelves.{Stays, Fails, HasShelfCause};
-ghost use Rattle.blob_store.specs.Bodies.{HasRead, ReadsOn, ReadsPart, IsRead, Explains, limit_of};
+ghost use Rattle.blob_store.specs.Bodies.{HasRead, ReadsOn, ReadsPart, IsRead, Explains, limit_of, max_piece};
 ghost use Rattle.blob_store.specs.declared.reading.ReadingEnd.TheVariants.{Failed as Fault};
 
 use crate::shelf::{Shelf, ShelfEnd};
@@ -83,10 +83,11 @@ impl<K: Shelf> Reading<K> {
         }
     }
 
-    /// The next bytes, into the front of the buffer, and how many. For a buffer that isn't empty, 0 comes only after all
-    /// bytes, which have the digest then. It takes no memory.
+    /// The next bytes, into the front of the buffer, and how many: at most 1,048,576. For a buffer that isn't empty, 0
+    /// comes only after all bytes, which have the digest then. It takes no memory.
     pub fn next(&mut self, shelf: &mut K, buf: &mut [u8]) -> Result<usize, ReadingEnd>
         ensures bound { IfOk result (λ n. n ≤ length buf.new) }
+        ensures piece { IfOk result (λ n. n ≤ max_piece) }
         ensures bytes { IfOk result (λ n. ReadsOn self.old self.new (take n buf.new)) }
         ensures ended { IfOk result (λ n. n ≡ 0 → 0 < length buf.new → IsRead self.new) }
         // No more bytes are given than the digest says.

@@ -1,18 +1,19 @@
 //! `Store`.
 
-ghost use Rattle.std.specs.Prelude.{◌≡◌, ◌<◌, ◌+◌, ◌-◌, ◌^◌, ◌||◌, ◌&&◌, ℕ, length, false, true, is_some, Some, IfOk, IfErr, IfSome, OnErr, IsOk};
-ghost use Rattle.store_core.specs.State.{State, Distinct, new_state, is_among, same};
+ghost use Rattle.std.specs.Prelude.{◌≡◌, ◌<◌, ◌+◌, ◌-◌, ◌^◌, ◌&&◌, ℕ, [], length, false, true, is_some, unwrap_or, Some, None, IfOk, IfErr, IfSome, OnErr, IsOk, if◌then◌else◌};
+ghost use Rattle.store_core.specs.State.{State, Distinct, new_state, has_row, same};
 ghost use Rattle.store_core.specs.Pass.{unguarded};
 ghost use Rattle.store_core.specs.Step.{step, is_here, is_open, usage};
 ghost use Rattle.store_core.specs.declared.event.Event.TheVariants as events;
 ghost use Rattle.store_core.specs.declared.event.Reply.TheVariants as replies;
 ghost use Rattle.digest_types.specs.Name.{HashAndSize};
 ghost use Rattle.digest_types.specs.Digest.{digest_of};
-ghost use Rattle.indexed_core.specs.Events.{moves_bodies, takes_memory};
+ghost use Rattle.indexed_core.specs.Events.{moves_bodies};
+ghost use Rattle.store_core.specs.Memory.{takes_memory};
 ghost use Rattle.indexed_core.specs.Removal.{removed, adds_row};
 ghost use Rattle.blob_store.specs.Applied.{HasBody, gives_up, put_gives_up, passed_gives_up, gives_up_beside};
 ghost use Rattle.blob_store.specs.Calls.{Begins};
-ghost use Rattle.blob_store.specs.Kept.{told_of};
+ghost use Rattle.blob_store.specs.Kept.{told_in, keeps_body, KeepsBodies, PutsBody, MovesBody};
 ghost use Rattle.blob_store.specs.Rings.{ring_mark};
 ghost use Rattle.blob_store.specs.Shelves.{Stays, HasShelfCause, discarding};
 ghost use Rattle.blob_store.specs.declared.shelf.ShelfEnd.TheVariants.{OutOfMemory as NoMemory};
@@ -38,24 +39,23 @@ pub struct Store<K: Shelf> {
 }
 
 impl<K: Shelf> Model for Store<K> {
-    ghost use Rattle.store_core.specs.State.{State};
-    ghost use Rattle.blob_store.specs.Kept.{AreBodiesOf};
+    ghost use Rattle.blob_store.specs.Kept.{Stocked, AreBodiesOf};
 
-    ghost Value = { State };
+    ghost Value = { Stocked };
 
-    ghost view = { λ s. s.core.value };
+    ghost view = { λ s. record { state = s.core.value; bodies = s.bodies.value.bodies } };
 
-    ghost invariant = { λ s. AreBodiesOf s.core.value.rows s.bodies.value };
+    ghost invariant = { λ s. AreBodiesOf s.core.value.rows s.bodies.value.bodies };
 }
 
 impl<K: Shelf> Stands for Store<K> {
-    ghost state = { λ s. s };
+    ghost state = { λ s. s.state };
 }
 
 impl<K: Shelf> Store<K> {
     /// An empty store with these marks.
     pub fn new(alloc: Global, marks: Marks) -> Result<Store<K>, OutOfMemory>
-        ensures { IfOk result (λ s. s ≡ new_state marks.low marks.high) }
+        ensures { IfOk result (λ s. s ≡ record { state = new_state marks.low marks.high marks.guard; bodies = [] }) }
     {
         Ok(Store {
             core: Box::new(alloc, IndexedCore::new(alloc, marks))?,
@@ -65,14 +65,14 @@ impl<K: Shelf> Store<K> {
 
     /// The numbers of the store. It takes no memory and is no event.
     pub fn usage(&self) -> Usage
-        ensures { usage self.now ≡ (replies.Used result, self.now) }
+        ensures { usage self.now.state ≡ (replies.Used result, self.now.state) }
     {
         self.core.usage()
     }
 
     /// The ring mark, in bytes: halfway from the low mark to the high mark. It takes no memory.
     pub(crate) fn ring_mark(&self) -> u64
-        ensures { result ≡ ring_mark self.now }
+        ensures { result ≡ ring_mark self.now.state }
     {
         let usage = self.usage();
         usage.low + usage.high.saturating_sub(usage.low) / 2
@@ -80,14 +80,14 @@ impl<K: Shelf> Store<K> {
 
     /// The number that the next owner gets. It takes no memory.
     pub fn next_owner(&self) -> u64
-        ensures { result ≡ self.now.next_owner }
+        ensures { result ≡ self.now.state.next_owner }
     {
         self.core.next_owner()
     }
 
     /// The number that the next lease gets. It takes no memory.
     pub fn next_lease(&self) -> u64
-        ensures { result ≡ self.now.next_lease }
+        ensures { result ≡ self.now.state.next_lease }
     {
         self.core.next_lease()
     }
@@ -102,12 +102,13 @@ impl<K: Shelf> Store<K> {
         body: Option<Checked<K>>,
     ) -> Result<Reply, ShelfEnd>
         requires body { HasBody event.now body }
-        requires owners { self.old.next_owner < 2 ^ 64 - 1 }
-        requires leases { self.old.next_lease < 2 ^ 64 - 1 }
-        ensures ok { IfOk result (λ reply. (reply, self.new) ≡ step self.old owner event.now) }
+        requires owners { self.old.state.next_owner < 2 ^ 64 - 1 }
+        requires leases { self.old.state.next_lease < 2 ^ 64 - 1 }
+        ensures ok { IfOk result (λ reply. (reply, self.new.state) ≡ step self.old.state owner event.now) }
+        ensures bodies { IfOk result (λ reply. MovesBody body reply self.old self.new) }
         ensures err { OnErr result (self.new ≡ self.old) }
         ensures end { IfErr result (λ e. e ≡ NoMemory) }
-        ensures free { takes_memory event.now ≡ false → IsOk result }
+        ensures free { takes_memory self.old.state.guard event.now ≡ false → IsOk result }
         ensures shelf { K.shelved shelf.new ≡ discarding (gives_up event.now result) (K.shelved shelf.old) }
     {
         match body {
@@ -122,11 +123,12 @@ impl<K: Shelf> Store<K> {
     /// One event of an owner that moves no body.
     pub(crate) fn step(&mut self, owner: u64, event: &Event) -> Result<Reply, OutOfMemory>
         requires quiet { moves_bodies event.now ≡ false }
-        requires owners { self.old.next_owner < 2 ^ 64 - 1 }
-        requires leases { self.old.next_lease < 2 ^ 64 - 1 }
-        ensures ok { IfOk result (λ reply. (reply, self.new) ≡ step self.old owner event.now) }
+        requires owners { self.old.state.next_owner < 2 ^ 64 - 1 }
+        requires leases { self.old.state.next_lease < 2 ^ 64 - 1 }
+        ensures ok { IfOk result (λ reply. (reply, self.new.state) ≡ step self.old.state owner event.now) }
+        ensures bodies { KeepsBodies self.old self.new }
         ensures err { OnErr result (self.new ≡ self.old) }
-        ensures free { takes_memory event.now ≡ false → IsOk result }
+        ensures free { takes_memory self.old.state.guard event.now ≡ false → IsOk result }
     {
         self.core.step(owner, event)
     }
@@ -138,7 +140,8 @@ impl<K: Shelf> Store<K> {
         owner: u64,
         blob: Checked<K>,
     ) -> Result<Reply, OutOfMemory>
-        ensures ok { IfOk result (λ reply. (reply, self.new) ≡ step self.old owner (events.Put blob.digest blob.edges)) }
+        ensures ok { IfOk result (λ reply. (reply, self.new.state) ≡ step self.old.state owner (events.Put blob.digest blob.edges)) }
+        ensures bodies { IfOk result (λ reply. PutsBody blob reply self.old self.new) }
         ensures err { OnErr result (self.new ≡ self.old) }
         ensures shelf { K.shelved shelf.new ≡ discarding (put_gives_up result) (K.shelved shelf.old) }
     {
@@ -164,7 +167,8 @@ impl<K: Shelf> Store<K> {
     /// An expiry pass to the low mark. It takes no memory.
     #[tactic(auto, unfolding(store_core::specs::Step::step, store_core::specs::Step::served, crate::specs::Applied::passed_gives_up))]
     pub(crate) fn pass(&mut self, shelf: &mut K, owner: u64) -> Reply
-        ensures step { (result, self.new) ≡ step self.old owner events.Pass }
+        ensures step { (result, self.new.state) ≡ step self.old.state owner events.Pass }
+        ensures bodies { KeepsBodies self.old self.new }
         ensures shelf { K.shelved shelf.new ≡ discarding (passed_gives_up result) (K.shelved shelf.old) }
     {
         if !self.core.is_open(owner) {
@@ -182,8 +186,10 @@ impl<K: Shelf> Store<K> {
 
     // Removes the least recently used row that isn't guarded, and gives up its body. It takes no memory.
     fn remove_first(&mut self, shelf: &mut K)
-        requires { (s : State) × (count : ℕ) × Distinct s.rows × (self.old ≡ removed s count) × (count < length (unguarded s)) }
-        ensures next { (s : State) (count : ℕ) → Distinct s.rows → self.old ≡ removed s count → count < length (unguarded s) → self.new ≡ removed s (count + 1) }
+        requires { (s : State) × (count : ℕ) × Distinct s.rows × (self.old.state ≡ removed s count) × (count < length (unguarded s)) }
+        ensures next { (s : State) (count : ℕ) → Distinct s.rows → self.old.state ≡ removed s count → count < length (unguarded s) → self.new.state ≡ removed s (count + 1) }
+        ensures fewer { (d : HashAndSize) → has_row self.new.state.rows d ≡ true → has_row self.old.state.rows d ≡ true }
+        ensures bodies { KeepsBodies self.old self.new }
         ensures shelf { K.shelved shelf.new ≡ discarding 1 (K.shelved shelf.old) }
     {
         match self.core.remove_first() {
@@ -192,10 +198,12 @@ impl<K: Shelf> Store<K> {
         }
     }
 
-    /// A reading of a blob that is there, or None. It is no event.
+    /// A reading of a blob that is there, or None. It reads the body of the digest; without one it is the empty blob. It is no
+    /// event.
     pub fn reading(&self, shelf: &mut K, digest: &Digest) -> Result<Option<Reading<K>>, ShelfEnd>
-        ensures there { IfOk result (λ o. is_some o ≡ is_here self.now.rows digest.now) }
+        ensures there { IfOk result (λ o. is_some o ≡ is_here self.now.state.rows digest.now) }
         ensures begun { IfOk result (λ o. IfSome o (Begins digest.now)) }
+        ensures body { IfOk result (λ o. IfSome o (λ reading. reading.told ≡ unwrap_or (told_in self.now.bodies digest.now) (Some []))) }
         ensures stays { Stays (K.shelved shelf.old) (K.shelved shelf.new) }
         ensures cause { HasShelfCause (K.shelved shelf.old) (K.shelved shelf.new) result }
     {
@@ -221,11 +229,9 @@ fn keep<K: Shelf>(
 )
     requires room { 0 < bodies.old.room }
     requires told { IfSome (K.kept body) (λ bytes. digest ≡ digest_of bytes) }
-    requires new { adds_row reply.now ≡ true → is_among bodies.old.digests digest ≡ false }
-    requires there { reply.now ≡ replies.Repaired → is_among bodies.old.digests digest ≡ true }
-    ensures digests { (d : HashAndSize) → is_among bodies.new.digests d ≡ ((adds_row reply.now && same digest d) || is_among bodies.old.digests d) }
-    ensures stored { adds_row reply.now ≡ true → told_of bodies.new digest ≡ Some (K.kept body) }
-    ensures repaired { reply.now ≡ replies.Repaired → told_of bodies.new digest ≡ Some (K.kept body) }
+    requires new { adds_row reply.now ≡ true → told_in bodies.old.bodies digest ≡ None }
+    requires there { reply.now ≡ replies.Repaired → is_some (told_in bodies.old.bodies digest) ≡ true }
+    ensures bodies { (d : HashAndSize) → told_in bodies.new.bodies d ≡ (if keeps_body reply.now && same digest d then Some (K.kept body) else told_in bodies.old.bodies d) }
     ensures shelf { K.shelved shelf.new ≡ discarding (gives_up_beside reply.now) (K.shelved shelf.old) }
 {
     match reply {

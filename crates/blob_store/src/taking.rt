@@ -4,7 +4,7 @@ ghost use Rattle.std.specs.Prelude.{◌≡◌, ◌+◌, ◌<◌, ◌≤◌, ◌+
 ghost use Rattle.digest_types.specs.Digest.{digest_of};
 ghost use Rattle.digest_types.specs.Hasher.{Holds};
 ghost use Rattle.blob_store.specs.Shelves.{Stays, Fails, HasShelfCause};
-ghost use Rattle.blob_store.specs.Bodies.{HasTaken, IsWhole, Ends, lent_by, limit_of};
+ghost use Rattle.blob_store.specs.Bodies.{HasTaken, IsWhole, Ends, lent_by, limit_of, max_piece};
 ghost use Rattle.blob_store.specs.declared.reading.ReadingEnd.TheVariants.{Failed as Fault};
 ghost use Rattle.blob_store.specs.Taking.{IsPlace, IsOther, TakesPiece, TakesPart};
 
@@ -15,6 +15,9 @@ use digest_types::{Digest, Hasher};
 
 /// The most bytes that a hasher takes.
 const MAX_SIZE: u64 = 1 << 60;
+
+/// The most bytes that are read at once.
+const MAX_PIECE: usize = 1_048_576;
 
 /// Takes a body's bytes in their order into a hasher, up to one more than a digest says.
 #[derive(Drop)]
@@ -110,6 +113,7 @@ impl<K: Shelf> Taking<K> {
     pub(crate) fn read_on(&mut self, shelf: &mut K, buf: &mut [u8]) -> Result<usize, ReadingEnd>
         requires { IsPlace self.old.want self.old.hasher (lent_by K.lent self.old.reader) self.old.at }
         ensures bound { IfOk result (λ n. n ≤ length buf.new) }
+        ensures piece { IfOk result (λ n. n ≤ max_piece) }
         ensures bytes { IfOk result (λ n. TakesPiece self.old.hasher self.new.hasher (lent_by K.lent self.old.reader) (take n buf.new)) }
         ensures ended { IfOk result (λ n. n ≡ 0 → 0 < length buf.new → IsWhole self.new.want self.new.hasher (lent_by K.lent self.new.reader)) }
         ensures fits { OnOk result (self.new.at ≤ self.new.want.size) }
@@ -121,7 +125,7 @@ impl<K: Shelf> Taking<K> {
         ensures stays { Stays (K.shelved shelf.old) (K.shelved shelf.new) }
         ensures cause { IsErrOf result Fault → Fails (K.shelved shelf.old) (K.shelved shelf.new) }
     {
-        let room = buf.len().min(self.left() as usize);
+        let room = buf.len().min(MAX_PIECE).min(self.left() as usize);
         let count = self.take(shelf, &mut buf[..room])?;
         if self.left() == 0 || count == 0 && !buf.is_empty() {
             self.judge()?;

@@ -6,7 +6,8 @@ ghost use Rattle.store_core.specs.declared.event.Reply.TheVariants as replies;
 ghost use Rattle.blob_store.specs.Applied.{gives_up_in, passed_gives_up};
 ghost use Rattle.blob_store.specs.Calls.{IsPutReply, read_reply, Begins};
 ghost use Rattle.blob_store.specs.Shelves.{Stays, HasShelfCause, discarding};
-ghost use Rattle.indexed_core.specs.Events.{moves_bodies, takes_memory};
+ghost use Rattle.store_core.specs.Memory.{takes_memory};
+ghost use Rattle.store_core.specs.declared.state.Guard.TheVariants as guards;
 ghost use Rattle.turn_lock.specs.Views.{IsOwn};
 ghost use Rattle.store_core.specs.State.{State};
 ghost use Rattle.store_core.specs.Step.{step};
@@ -46,7 +47,7 @@ pub(crate) fn ask_in_turn<K: Shelf, R: Wait>(
     ensures made { IfOk result (λ r. Makes (door_view seat.old true) (door_view seat.new true) event.now r) }
     ensures answer { IfOk result (λ r. (s : State) × IsAnswer s event.now r) }
     ensures err { OnErr result (Waits (door_view seat.old true) (door_view seat.new true)) }
-    ensures free { takes_memory event.now ≡ false → IsOk result }
+    ensures free { takes_memory guards.Session event.now ≡ false → IsOk result }
 {
     let mut turn = lock.take(rt, seat);
     let owner = seat.owner().unwrap();
@@ -217,29 +218,21 @@ pub(crate) fn read_in_turn<K: Shelf, R: Wait>(
     let event = Event::Read { digest: *digest };
     let mut turn = lock.take(rt, seat);
     let owner = seat.owner().unwrap();
-    match turn.value().reading(shelf, digest) {
-        Ok(reading) => {
-            let reply = step_freely(turn.value(), owner, &event);
+    let reading = match turn.value().reading(shelf, digest) {
+        Ok(reading) => reading,
+        Err(e) => {
+            lock.give_back(seat, turn);
+            return Err(e);
+        }
+    };
+    match turn.value().step(owner, &event) {
+        Ok(reply) => {
             lock.give(seat, turn, &event, &reply);
             Ok(reading)
         }
-        Err(e) => {
+        Err(OutOfMemory) => {
             lock.give_back(seat, turn);
-            Err(e)
+            Err(ShelfEnd::OutOfMemory)
         }
-    }
-}
-
-// An event that moves no body and takes no memory.
-fn step_freely<K: Shelf>(store: &mut Store<K>, owner: u64, event: &Event) -> Reply
-    requires quiet { moves_bodies event.now ≡ false }
-    requires free { takes_memory event.now ≡ false }
-    requires owners { store.old.next_owner < 2 ^ 64 - 1 }
-    requires leases { store.old.next_lease < 2 ^ 64 - 1 }
-    ensures { (result, store.new) ≡ step store.old owner event.now }
-{
-    match store.step(owner, event) {
-        Ok(reply) => reply,
-        Err(_) => unreachable!(),
     }
 }

@@ -16,7 +16,7 @@ use Rattle.store_core.specs.declared.event.Reply.{Reply}
 use Rattle.store_core.specs.State.{State, row_of, same}
 use Rattle.store_core.specs.Step.{with_room, put_over, put, served, step}
 use Rattle.store_core.proofs.Same.{same_from_equal, not_same_from_other}
-use Rattle.store_core.proofs.Entries.{put_leases}
+use Rattle.store_core.proofs.Uses.{put_uses}
 use Rattle.blob_store.specs.Bodies.{Sealed, IsSealed}
 use Rattle.blob_store.specs.View.{IsSound, Makes, Waits}
 use Rattle.blob_store.specs.Benched.{Benched, store_of, seat_of, view_of, unseated}
@@ -34,7 +34,7 @@ kept_if false x y ls p q = q
 
 step-put-leases : (s : State) (owner : ℕ) (d : HashAndSize) (edges : Option (List Edge)) → (step s owner (events.Put d edges)).1.leases ≡ s.leases
 unfolding step served
-step-put-leases s owner d edges = kept_if {A = Reply} _ _ _ _ (put_leases s d edges) refl
+step-put-leases s owner d edges = kept_if {A = Reply} _ _ _ _ (put_uses s owner d edges).leases refl
 
 -- ---- a put at a bench
 

@@ -3,6 +3,7 @@ use Rattle.std.proofs.Common.{◌≡◌, ℕ, ◌+◌, zero, suc, List, [], ◌�
 use Rattle.std.specs.Result.{IfOk}
 use Rattle.std.proofs.lemmas.List.{length-replicate}
 use Rattle.store_core.specs.State.{State, new_state}
+use Rattle.store_core.specs.declared.state.Guard.TheVariants as guards
 use Rattle.store_core.specs.History.{state}
 use Rattle.store_core.specs.declared.event.Event.TheVariants as events
 use Rattle.casd_base.specs.declared.status.Status.{Status}
@@ -32,13 +33,13 @@ unseated-all : (n : ℕ) → map owner_of (replicate n unseated) ≡ replicate n
 unseated-all zero = refl
 unseated-all (suc n) = ap (λ (seats : List (Option ℕ)). None ∷ seats) (unseated-all n)
 
-pub new-ready : (low high : ℕ) (shelf : MemState) → shelf.failing ≡ [] → IsReady (new_bench (new_state low high) 100) (shelved_of shelf)
+pub new-ready : (low high : ℕ) (shelf : MemState) → shelf.failing ≡ [] → IsReady (new_bench (new_state low high guards.Leases) 100) (shelved_of shelf)
 unfolding state
 new-ready low high shelf none = record { sure = rw none refl; hundred = length-replicate 100 unseated; bare = refl; few = omega arith }
 
-pub new-seated : (low high : ℕ) → seated_at (new_bench (new_state low high) 100) ≡ new_seated low high
+pub new-seated : (low high : ℕ) → seated_at (new_bench (new_state low high guards.Leases) 100) ≡ new_seated low high
 unfolding state
-new-seated low high = ap (λ (seats : List (Option ℕ)). record { core = new_state low high; seats = seats }) (unseated-all 100)
+new-seated low high = ap (λ (seats : List (Option ℕ)). record { core = new_state low high guards.Leases; seats = seats }) (unseated-all 100)
 
 -- what each word asks for
 pub run_by-batch : (w : Word) (s : Seated) (seat owner : ℕ) (messages : List (List ℕ)) → w ≡ words.BatchUpdateBlobs → run_by w s seat owner messages ≡ with_core s (batch_update s.core owner messages)

@@ -6,6 +6,7 @@ use Rattle.percent_encoding.specs.Percent.{percent_encode_byte}
 use Rattle.casd_base.specs.Code.{number_of}
 use Rattle.casd_base.specs.declared.status.Status.{Status}
 use Rattle.store_core.specs.State.{State, new_state}
+use Rattle.store_core.specs.declared.state.Guard.TheVariants as guards
 use Rattle.store_core.specs.Step.{step}
 use Rattle.store_core.specs.declared.event.Event.{Event}
 use Rattle.store_core.specs.declared.event.Event.TheVariants as events
@@ -26,7 +27,7 @@ pub record Seated : Type 0 where
 
 -- an empty store with these marks, and no owner on any seat
 abbrev pub new_seated : ℕ → ℕ → Seated
-new_seated low high = record { core = new_state low high; seats = replicate 100 None }
+new_seated low high = record { core = new_state low high guards.Leases; seats = replicate 100 None }
 
 -- the owner of a seat
 abbrev pub owner_in : Option (Option ℕ) → Option ℕ

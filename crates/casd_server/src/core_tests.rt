@@ -14,12 +14,16 @@ use proto_wire::{Bytes, Listed, Text};
 use std::alloc::Global;
 use std::process::Abort;
 use std::test::*;
-use store_core::{Core, Event, Marks, Reply};
+use store_core::{Core, Event, Guard, Marks, Reply};
 
 /// How many blobs there are. The first one has no space.
 const BLOBS: u64 = 60;
 
-const MARKS: Marks = Marks { low: 60, high: 100 };
+const MARKS: Marks = Marks {
+    low: 60,
+    high: 100,
+    guard: Guard::Leases,
+};
 
 /// How many records are asked.
 const LINES: u64 = 20_000;

@@ -18,12 +18,13 @@ use crate::seats::Seats;
 use casd_base::{Sink, SinkEnd, Source};
 use proto_wire::OutOfMemory;
 use std::alloc::{AllocError, Global};
-use store_core::Marks;
+use store_core::{Guard, Marks};
 
 /// The marks of a store that is told none, in bytes.
 const DEFAULT_MARKS: Marks = Marks {
     low: 1_610_612_736,
     high: 2_147_483_648,
+    guard: Guard::Leases,
 };
 
 /// How a replay ended.

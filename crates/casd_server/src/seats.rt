@@ -4,6 +4,7 @@ ghost use Rattle.std.specs.Prelude.{◌≡◌, ◌<◌, IfOk, string_bytes};
 ghost use Rattle.casd_server.specs.Answer.{closed_below, new_seated, run_record, answer};
 ghost use Rattle.casd_server.specs.Record.{record_view};
 ghost use Rattle.casd_server.specs.Sitting.{seated_at};
+ghost use Rattle.store_core.specs.declared.state.Guard.TheVariants as guards;
 
 use crate::answer::{Answer, answer_line, not_built};
 use crate::asking::{close, pass, usage};
@@ -43,6 +44,7 @@ impl Model for Seats {
 impl Seats {
     /// An empty store, and no owner on any seat.
     pub(crate) fn new(alloc: Global, marks: Marks) -> Result<Seats, OutOfMemory>
+        requires { marks.guard ≡ guards.Leases }
         ensures { IfOk result (λ s. s ≡ new_seated marks.low marks.high) }
     {
         let store = Store::new(alloc, marks)?;

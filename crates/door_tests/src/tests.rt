@@ -6,7 +6,7 @@ use crate::{empty_shelf, unrung};
 use blob_store::{Bell, Door, Ear, Gate, LockDoor, MemShelf, PutReply, Ring, Store};
 use std::test::*;
 use std::thread::join;
-use store_core::Marks;
+use store_core::{Guard, Marks};
 use turn_lock::{Seat as TurnSeat, TurnLock};
 
 // A lock round an empty store, and its first seat.
@@ -18,7 +18,12 @@ fn locked(
     requires { (low ≤ high) × (high ≤ 1000) }
     ensures { IfOk result (λ r. IsFresh r.0 r.1) }
 {
-    let store = Store::new(rt.alloc(), Marks { low, high })?;
+    let marks = Marks {
+        low,
+        high,
+        guard: Guard::Leases,
+    };
+    let store = Store::new(rt.alloc(), marks)?;
     Ok(TurnLock::new(rt.alloc(), store)?)
 }
 

@@ -4,6 +4,7 @@
 
 ghost use Rattle.std.specs.Prelude.{◌≡◌, ◌≤◌, ◌+◌, ◌*◌, ◌<◌, ◌^◌, [], false, All, IfOk, IfSome, IsTrue};
 ghost use Rattle.store_core.specs.State.{new_state};
+ghost use Rattle.store_core.specs.declared.state.Guard.TheVariants as guards;
 ghost use Rattle.turn_lock.specs.Seats.{IsIdle};
 ghost use Rattle.blob_store.specs.Doors.{GoesOn};
 ghost use Rattle.blob_store.specs.View.{MayCall, own_now};
@@ -15,7 +16,7 @@ use std::process::ExitCode;
 use std::sync::Wait;
 use std::thread::Threads;
 use std::{env, thread};
-use store_core::Marks;
+use store_core::{Guard, Marks};
 use turn_lock::{Seat, Stands, TurnLock};
 
 /// It stands for an empty store.
@@ -26,8 +27,9 @@ struct Empty {
 
 impl Stands for Empty {
     ghost use Rattle.store_core.specs.State.{new_state};
+    ghost use Rattle.store_core.specs.declared.state.Guard.TheVariants as guards;
 
-    ghost state = { λ _. new_state 10 20 };
+    ghost state = { λ _. new_state 10 20 guards.Leases };
 }
 
 /// How many turns a seat is given.
@@ -138,11 +140,12 @@ fn puts<D: Door<MemShelf>>(alloc: Global, door: &mut D, count: u32) -> bool
 
 // A store with the marks of a daemon.
 fn store(alloc: Global) -> Option<Store<MemShelf>>
-    ensures { IfSome result (λ s. s ≡ new_state 1610612736 2147483648) }
+    ensures { IfSome result (λ s. s.state ≡ new_state 1610612736 2147483648 guards.Leases) }
 {
     let marks = Marks {
         low: 1_610_612_736,
         high: 2_147_483_648,
+        guard: Guard::Leases,
     };
     Store::new(alloc, marks).ok()
 }

@@ -12,7 +12,7 @@ use directory_canon::Kind;
 use std::alloc::Global;
 use std::process::Abort;
 use std::test::*;
-use store_core::{Marks, Standing};
+use store_core::{Guard, Marks, Standing};
 
 // A Directory with one file, "a", of the bytes "abc".
 const FOLDER: &[u8] =
@@ -42,7 +42,12 @@ fn three_seats(rt: &impl Abort, alloc: Global, low: u64, high: u64) -> Result<Be
 {
     assert!(rt; low <= high);
     assert!(rt; high <= 1000);
-    let store = Store::new(alloc, Marks { low, high })?;
+    let marks = Marks {
+        low,
+        high,
+        guard: Guard::Leases,
+    };
+    let store = Store::new(alloc, marks)?;
     Ok(Bench::new(alloc, store, 3)?)
 }
 

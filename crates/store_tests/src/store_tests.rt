@@ -7,7 +7,7 @@ use proto_wire::Bytes;
 use std::alloc::Global;
 use std::process::Abort;
 use std::test::*;
-use store_core::{Event, Marks, Reply};
+use store_core::{Event, Guard, Marks, Reply};
 
 // What an owner does, with the bytes of a blob.
 #[derive(Clone, Copy)]
@@ -36,7 +36,12 @@ fn empty(
         Vec::new(alloc),
         Vec::from_slice(alloc, spoilt)?,
     );
-    Ok((Store::new(alloc, Marks { low, high })?, shelf))
+    let marks = Marks {
+        low,
+        high,
+        guard: Guard::Leases,
+    };
+    Ok((Store::new(alloc, marks)?, shelf))
 }
 
 pub(crate) fn digest(rt: &impl Abort, bytes: &[u8]) -> Digest {

@@ -13,34 +13,15 @@ use Rattle.store_core.specs.declared.event.Event.{Event}
 use Rattle.store_core.specs.declared.event.Event.TheVariants as events
 use Rattle.store_core.specs.declared.event.Reply.{Reply}
 use Rattle.store_core.specs.declared.event.Reply.TheVariants as replies
-use Rattle.store_core.specs.State.{State, is_empty, row_of, used, is_of_owner}
-use Rattle.store_core.specs.Pass.{guarded, pass}
-use Rattle.store_core.specs.Step.{is_open, is_opening, with_room, with_row, put_over, put, read, own_lease, confirmed, released, closed, touched, is_here, served, step}
+use Rattle.store_core.specs.State.{State, is_of_owner, other_holds}
+use Rattle.store_core.specs.Step.{is_open, is_opening, own_lease, confirmed, released, closed, served, step}
 use Rattle.store_core.specs.History.{Entry, state, IsNumbered, IsLegalAt, Legal, own}
 use Rattle.turn_lock.specs.Views.{Extends}
 use Rattle.store_core.proofs.Kept.{chosen}
 use Rattle.store_core.proofs.Histories.{state_after}
+use Rattle.store_core.proofs.Uses.{put_uses, read_uses}
 
 -- ---- the number of the next owner never falls
-
-room_next : (s : State) (size : ℕ) → (with_room s size).next_owner ≡ s.next_owner
-room_next s size = cond_both (nat_lt s.high (used s + size)) (pass s (min s.low (s.high - size))) s (λ t. t.next_owner ≡ s.next_owner) (λ _. refl) (λ _. refl)
-
-put_over_next : (s : State) (d : HashAndSize) (edges : Option (List Edge)) (o : Option Row) → (put_over s d edges o).1.next_owner ≡ s.next_owner
-put_over_next s d edges (Some row) = refl
-put_over_next s d edges None =
-    let row : Row = record { digest = d; edges = edges; sound = true } in
-    chosen (λ t. t.next_owner ≡ s.next_owner) (nat_lt s.high (guarded s + d.size)) (replies.NoSpace (guarded s) d.size s.high, s)
-    (replies.Stored (length s.rows - length (with_room s d.size).rows) (used (with_room s d.size) + d.size), with_row (with_room s d.size) row)
-    (λ _. refl)
-    (λ _. room_next s d.size)
-
-put_next : (s : State) (d : HashAndSize) (edges : Option (List Edge)) → (put s d edges).1.next_owner ≡ s.next_owner
-unfolding put
-put_next s d edges = chosen (λ t. t.next_owner ≡ s.next_owner) (is_empty d) (replies.Present, s) (put_over s d edges (row_of d s.rows)) (λ _. refl) (λ _. put_over_next s d edges (row_of d s.rows))
-
-read_next : (s : State) (d : HashAndSize) → (read s d).1.next_owner ≡ s.next_owner
-read_next s d = chosen (λ t. t.next_owner ≡ s.next_owner) (is_here s.rows d) (replies.Found, record s { rows = touched d s.rows }) (replies.Absent, s) (λ _. refl) (λ _. refl)
 
 confirmed_next : (s : State) (files : Bool) (o : Option Lease) → (confirmed s files o).1.next_owner ≡ s.next_owner
 confirmed_next s files None = refl
@@ -52,15 +33,15 @@ released_next s id (Some lease) = refl
 
 closed_next : (s : State) (owner : ℕ) → (closed s owner).1.next_owner ≡ s.next_owner
 closed_next s owner =
-    chosen (λ t. t.next_owner ≡ s.next_owner) (list_any (is_of_owner owner) s.leases) (replies.Refused, s) (replies.Closed, record s { owners = filter (λ o. not (eqb o owner)) s.owners })
+    chosen (λ t. t.next_owner ≡ s.next_owner) (list_any (is_of_owner owner) s.leases) (replies.Refused, s) (replies.Closed, record s { owners = filter (λ o. not (eqb o owner)) s.owners; holds = other_holds owner s.holds })
     (λ _. refl) (λ _. refl)
 
 served_next : (s : State) (owner : ℕ) (event : Event) → s.next_owner ≤ (served s owner event).1.next_owner
 unfolding served
 served_next s owner events.Open = omega arith
-served_next s owner (events.Put d edges) = let e = put_next s d edges in omega arith
+served_next s owner (events.Put d edges) = let e = (put_uses s owner d edges).next_owner in omega arith
 served_next s owner (events.Find ds) = omega arith
-served_next s owner (events.Read d) = let e = read_next s d in omega arith
+served_next s owner (events.Read d) = let e = (read_uses s owner d).next_owner in omega arith
 served_next s owner (events.Lease root kind) = omega arith
 served_next s owner (events.Confirm id files) = let e = confirmed_next s files (own_lease s owner id) in omega arith
 served_next s owner (events.Release id) = let e = released_next s id (own_lease s owner id) in omega arith

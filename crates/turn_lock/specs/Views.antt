@@ -1,6 +1,7 @@
 -- What a seat at a turn lock knows.
 use Rattle.std.specs.Prelude.{◌≡◌, ◌+◌, ◌-◌, ◌^◌, ◌++◌, nat_lt, ℕ, List, [], ◌∷◌, length, Option, Some, None, IfSome, if◌then◌else◌}
 use Rattle.store_core.specs.State.{State, new_state}
+use Rattle.store_core.specs.declared.state.Guard.TheVariants as guards
 use Rattle.store_core.specs.History.{Entry, state, own}
 use Rattle.store_core.specs.Step.{is_opening}
 use Rattle.turn_lock.specs.declared.phase.Phase.{Phase}
@@ -58,7 +59,7 @@ both v w = record v { seen = longer v.seen w.seen; told = shorter v.seen w.seen;
 
 -- the other, which is over
 abbrev pub spent : View
-spent = record { start = new_state 0 0; owner = None; seen = []; mine = []; made = 0; left = 0; grant = 0; phase = Gone; owed = 0; told = [] }
+spent = record { start = new_state 0 0 guards.Leases; owner = None; seen = []; mine = []; made = 0; left = 0; grant = 0; phase = Gone; owed = 0; told = [] }
 
 -- One entry ends what was seen. At Open the owner is the entry's, and its own entries begin with this one.
 abbrev pub with_entry : Entry → View → View

@@ -15,10 +15,11 @@ pub struct SeatView;
 impl Model for SeatView {
     ghost use Rattle.turn_lock.specs.Views.{View, first_view};
     ghost use Rattle.store_core.specs.State.{new_state};
+    ghost use Rattle.store_core.specs.declared.state.Guard.TheVariants as guards;
 
     ghost Value = { View };
 
-    ghost view = { λ _. first_view (new_state 0 0) };
+    ghost view = { λ _. first_view (new_state 0 0 guards.Leases) };
 }
 
 /// The rule of the lock. The key is the value that the lock is made of.

@@ -7,8 +7,9 @@ struct Empty;
 
 impl Stands for Empty {
     ghost use Rattle.store_core.specs.State.{new_state};
+    ghost use Rattle.store_core.specs.declared.state.Guard.TheVariants as guards;
 
-    ghost state = { λ _. new_state 10 20 };
+    ghost state = { λ _. new_state 10 20 guards.Leases };
 }
 
 #[test]

@@ -1,12 +1,11 @@
-use Rattle.std.proofs.Common.{◌||◌, ◌&&◌, List, sym, ap, ◌∙◌}
-use Rattle.digest_types.specs.Name.{HashAndSize}
+use Rattle.std.proofs.Common.{◌&&◌, Some, sym, ap, ◌∙◌}
+use Rattle.std.specs.Prelude.{if◌then◌else◌}
 use Rattle.store_core.specs.declared.event.Reply.{Reply}
-use Rattle.store_core.specs.State.{same, is_among}
-use Rattle.indexed_core.specs.Removal.{adds_row}
-use Rattle.blob_store.proofs.KeptRows.{last_among}
+use Rattle.store_core.specs.State.{same}
+use Rattle.blob_store.specs.Kept.{told_in, keeps_body}
 use Rattle.blob_store.proofs.store.keep.Goals as goal
 
-pub returns-in-Stored-clause-digests : goal.returns-in-Stored-clause-digests
-returns-in-Stored-clause-digests g c = λ d.
-    ap (λ (ds : List HashAndSize). is_among ds d) c.add.ensures.digests ∙ last_among c.args.bodies.now.digests c.args.digest d
-    ∙ ap (λ (reply : Reply). (adds_row reply && same c.args.digest d) || is_among c.args.bodies.now.digests d) (sym c.in-Stored.is)
+pub returns-in-Stored-clause-bodies : goal.returns-in-Stored-clause-bodies
+returns-in-Stored-clause-bodies g c = λ d.
+    c.add.ensures d
+    ∙ ap (λ (reply : Reply). if keeps_body reply && same c.args.digest d then Some (g.K.Shelf.kept c.args.body) else told_in c.args.bodies.now.bodies d) (sym c.in-Stored.is)

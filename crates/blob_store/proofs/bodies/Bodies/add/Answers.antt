@@ -1,8 +1,8 @@
-use Rattle.std.proofs.Common.{◌≡◌, ◌∷◌, ◌++◌, [], false, ap, subst, sym, ◌∙◌}
-use Rattle.std.specs.Map.{keys_of}
-use Rattle.store_core.specs.State.{is_among}
-use Rattle.blob_store.specs.Kept.{Kept}
-use Rattle.blob_store.proofs.KeptBodies.{AreTold, told_found, inserted_last, inserted_told}
+use Rattle.std.proofs.Common.{Some, ap, subst, sym, ◌∙◌}
+use Rattle.std.specs.Prelude.{if◌then◌else◌}
+use Rattle.store_core.specs.State.{same}
+use Rattle.blob_store.specs.Kept.{Kept, told_in}
+use Rattle.blob_store.proofs.KeptBodies.{AreTold, inserted_told, set_told}
 use Rattle.blob_store.proofs.bodies.Bodies.add.Goals as goal
 
 pub invariant_of-self : goal.invariant_of-self
@@ -11,11 +11,7 @@ invariant_of-self g c = (
   subst (AreTold g.K.Shelf.kept) (sym c.in-Ok.ensures.entries) (inserted_told g.K.Shelf.kept c.args.digest c.args.body c.self.inside.bodies.entries c.requires.told c.self.invariant.1),
 )
 
-pub returns-clause-digests : goal.returns-clause-digests
-returns-clause-digests g c =
-    let none : is_among (keys_of c.self.inside.bodies.entries) c.args.digest ≡ false = ap (λ (k : Kept). is_among k.digests c.args.digest) c.self.view_is ∙ c.requires.new in
-    ap keys_of c.in-Ok.ensures.entries ∙ inserted_last c.args.digest c.args.body c.self.inside.bodies.entries none
-    ∙ ap (λ (k : Kept). k.digests ++ c.args.digest ∷ []) c.self.view_is
-
-pub returns-clause-body : goal.returns-clause-body
-returns-clause-body g c = told_found g.K.Shelf.kept c.args.digest c.insert.new.self.entries c.args.body c.in-Ok.ensures.updates.1
+pub returns : goal.returns
+returns g c = λ d.
+    set_told g.K.Shelf.kept c.args.digest d (Some c.args.body) c.self.inside.bodies.entries c.insert.new.self.entries (c.in-Ok.ensures.updates.0 d)
+    ∙ ap (λ (k : Kept). if same c.args.digest d then Some (g.K.Shelf.kept c.args.body) else told_in k.bodies d) c.self.view_is
