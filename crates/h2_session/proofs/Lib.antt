@@ -3,3 +3,4 @@ pub mod RowLaws
 pub mod PartLaws
 pub mod SaidLaws
 pub mod HeardLaws
+pub mod BusyLaws

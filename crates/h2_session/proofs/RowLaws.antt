@@ -5,7 +5,7 @@ use Rattle.std.proofs.lemmas.Option.{slice_get_within, get_or_from_slice_get}
 use Rattle.std.proofs.lemmas.List.Sums.{sum_by-set, sum_by-remove}
 use Rattle.std.specs.List.{position_or_len}
 use Rattle.std.proofs.lemmas.List.Quantifiers.{position-Some}
-use Rattle.std.proofs.lemmas.Bool.{eqb-true, eq-eqb, ne_eqb, lt-ltb, ltb-true}
+use Rattle.std.proofs.lemmas.Bool.{eqb-true, eq-eqb, ne_eqb, lt-ltb, le-ltb, ltb-true}
 use Rattle.h2_session.specs.declared.stream.Stream.{Stream}
 use Rattle.h2_session.specs.declared.stream.Sending.{Sending}
 use Rattle.h2_session.specs.declared.stream.Sending.TheVariants as sending
@@ -90,6 +90,33 @@ pub place_found : (low : ℕ) (ss : List Stream) (high i : ℕ) (s : Stream) →
 place_found low ss high i s at h =
     let l = lt-ltb i (length ss) (slice_get_within ss i s at) in
     rw (counted low ss high i s at h, l) refl
+
+-- the numbers stand in the order of their places
+pub rises_order : (low : ℕ) (ss : List Stream) (high i j : ℕ) (s t : Stream) → Rises low ss high → i ≤ j → slice_get ss i ≡ Some s → slice_get ss j ≡ Some t → s.number ≤ t.number
+rises_order low [] high i j s t h l a b = absurd (cc a)
+rises_order low (x ∷ ss) high zero zero s t h l a b =
+    let n : s.number ≡ t.number = let e : s ≡ t = grind arith in ap (λ (y : Stream). y.number) e in omega (arith, n)
+rises_order low (x ∷ ss) high zero (suc j) s t h l a b =
+    let n : x.number ≡ s.number = let e : x ≡ s = grind arith in ap (λ (y : Stream). y.number) e in
+    let k = above x.number ss high j t b h.1 in omega (arith, n, k)
+rises_order low (x ∷ ss) high (suc i) zero s t h l a b = absurd (omega (arith, l))
+rises_order low (x ∷ ss) high (suc i) (suc j) s t h l a b = rises_order x.number ss high i j s t h.1 (omega (arith, l)) a b
+
+uncounted : (number : ℕ) (ss : List Stream) → ((k : ℕ) (s : Stream) → slice_get ss k ≡ Some s → s.number ≡ number → ⊥) → position_or_len (λ (x : Stream). x.number == number) ss ≡ length ss
+uncounted number [] h = refl
+uncounted number (x ∷ ss) h =
+    let k = ne_eqb x.number number (h 0 x refl) in
+    let r = uncounted number ss (λ i s at. h (suc i) s at) in
+    rw k (omega (arith, r))
+
+-- no stream has this number
+pub place_missed : (number : ℕ) (ss : List Stream) → ((k : ℕ) (s : Stream) → slice_get ss k ≡ Some s → s.number ≡ number → ⊥) → place_of number ss ≡ None
+place_missed number ss h =
+    let l = le-ltb (length ss) (length ss) (omega arith) in
+    rw (uncounted number ss h, l) refl
+
+pub same_row : (ss : List Stream) (i : ℕ) (d s : Stream) → slice_get ss i ≡ Some d → slice_get ss i ≡ Some s → d ≡ s
+same_row ss i d s a b = cc
 
 default_row : ℕ → Stream
 default_row number = record { number = number; flow = new_flow; ended = false; sending = sending.Open; waits = [] }

@@ -15,6 +15,6 @@ part_of m = record {
   window = m.window;
   block = m.block;
   table = m.table.dynamic;
-  streams = m.streams.items;
+  streams = m.streams;
   due = [];
 }

@@ -71,3 +71,10 @@ left_of s = length s.waits + ends_left s.sending
 
 abbrev pub left_in : List Stream → ℕ
 left_in ss = sum_by left_of ss
+
+-- 1 for a stream that has bytes or an end still to write, and how many such streams there are
+abbrev pub busy_of : Stream → ℕ
+busy_of s = if length s.waits == 0 then ends_left s.sending else 1
+
+abbrev pub busy_in : List Stream → ℕ
+busy_in ss = sum_by busy_of ss

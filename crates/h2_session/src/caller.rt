@@ -1,6 +1,6 @@
 //! What the caller hands in.
 
-ghost use Rattle.std.specs.Prelude.{◌≡◌, ◌<◌, ◌≤◌, ◌^◌, ◌++◌, ◌↔◌, ◌∷◌, [], ℕ, Some, None, true, false, IfOk, OnOk, OnErr, IfSome, IsNone, length, slice_get, slice_set};
+ghost use Rattle.std.specs.Prelude.{◌≡◌, ◌<◌, ◌≤◌, ◌^◌, ◌++◌, ◌↔◌, ◌∷◌, [], ℕ, Some, None, true, false, IfOk, OnOk, IfSome, IsNone, slice_get};
 ghost use Rattle.h2_frames.specs.Spelling.{IsStreamNumber, spelled};
 ghost use Rattle.hpack_tables.specs.Table.{list_size};
 ghost use Rattle.h2_session.specs.Codes.{max_list};
@@ -12,7 +12,7 @@ ghost use Rattle.h2_session.specs.Machine.{part_of};
 ghost use Rattle.h2_session.specs.Part.{stream_of, place_of, is_live, IsRow};
 ghost use Rattle.h2_session.specs.Said.{said, said_on, may_say, is_sending, waiting, headers_frame, IsSayable, IsSayableNow, cancelled, may_begin, next_number, begun};
 ghost use Rattle.h2_session.specs.Sent.{Settles, Pays, ending, spellings};
-ghost use Rattle.h2_session.specs.Rows.{rows_said, is_unopened};
+ghost use Rattle.h2_session.specs.Rows.{is_unopened};
 ghost use Rattle.h2_session.specs.Faults.{is_server};
 ghost use Rattle.h2_session.specs.Session.{last_of_peer};
 
@@ -23,7 +23,6 @@ use crate::number::StreamNumber;
 use crate::pump::write_end;
 use crate::small::{SmallHeaders, block_of};
 use crate::stream::{Sending, Stream};
-use crate::streams::{add, place, set_answered};
 use crate::waits::Waits;
 use h2_frames::{Frame, write_frame};
 use hpack_tables::Headers;
@@ -49,34 +48,6 @@ fn is_sending(sending: &Sending) -> bool
         Sending::Unopened | Sending::Open => true,
         _ => false,
     }
-}
-
-/// More bytes of a stream, with which it may half-close.
-fn add_piece(
-    streams: &mut Vec<Stream>,
-    i: usize,
-    bytes: Bytes,
-    end: bool,
-) -> Result<(), OutOfMemory>
-    requires { i < length streams.old.items }
-    ensures ok { OnOk result (IfSome (slice_get streams.old.items i) (λ s. streams.new.items ≡ rows_said i bytes end s streams.old.items)) }
-    ensures err { OnErr result (streams.new.items ≡ streams.old.items) }
-{
-    let stream = &mut streams[i];
-    stream.waits.add(bytes)?;
-    if end {
-        stream.sending = Sending::HalfClose;
-    }
-    Ok(())
-}
-
-/// Trailers, which wait until all bytes are written.
-fn set_trailers(streams: &mut Vec<Stream>, i: usize, headers: Headers)
-    requires place { i < length streams.old.items }
-    requires small { list_size headers ≤ max_list }
-    ensures { IfSome (slice_get streams.old.items i) (λ s. streams.new.items ≡ slice_set streams.old.items i (record s { sending = sending.Trailers headers })) }
-{
-    streams[i].sending = Sending::Trailers(SmallHeaders::new(headers));
 }
 
 /// Writes HEADERS.
@@ -157,7 +128,7 @@ impl Machine {
         ensures pays { OnOk result (Pays (said stream what (part_of self.old)) out.old (part_of self.new) out.new) }
         ensures stays { (self.new.role ≡ self.old.role) × (self.new.highest ≡ self.old.highest) }
     {
-        let Some(i) = place(&self.streams, stream) else {
+        let Some(i) = self.place(stream) else {
             unreachable!()
         };
         match what {
@@ -174,11 +145,12 @@ impl Machine {
         bytes: Bytes,
         end: bool,
     ) -> Result<(), OutOfMemory>
-        requires { IsRow stream self.old.streams.items i }
+        requires { IsRow stream self.old.streams i }
         ensures pays { OnOk result (Pays (said stream (outs.Piece bytes end) (part_of self.old)) out.old (part_of self.new) out.new) }
         ensures stays { (self.new.role ≡ self.old.role) × (self.new.highest ≡ self.old.highest) }
     {
-        add_piece(&mut self.streams, i, bytes, end)?;
+        self.cursor = self.turn_for(i);
+        self.streams.add_piece(i, bytes, end)?;
         Ok(())
     }
 
@@ -190,12 +162,12 @@ impl Machine {
         headers: Headers,
         end: bool,
     ) -> Result<(), OutOfMemory>
-        requires row { IsRow stream self.old.streams.items i }
+        requires row { IsRow stream self.old.streams i }
         requires small { list_size headers ≤ max_list }
         ensures pays { OnOk result (Pays (said stream (outs.Headers headers end) (part_of self.old)) out.old (part_of self.new) out.new) }
         ensures stays { (self.new.role ≡ self.old.role) × (self.new.highest ≡ self.old.highest) }
     {
-        if is_unopened(&self.streams[i].sending) {
+        if is_unopened(&self.streams.get(i).sending) {
             self.answer(out, stream, i, headers, end)
         } else {
             self.say_trailers(out, stream, i, headers, end)
@@ -210,13 +182,14 @@ impl Machine {
         headers: Headers,
         end: bool,
     ) -> Result<(), OutOfMemory>
-        requires row { IsRow stream self.old.streams.items i }
-        requires opened { IfSome (slice_get self.old.streams.items i) (λ s. is_unopened s.sending ≡ false) }
+        requires row { IsRow stream self.old.streams i }
+        requires opened { IfSome (slice_get self.old.streams i) (λ s. is_unopened s.sending ≡ false) }
         requires small { list_size headers ≤ max_list }
         ensures pays { OnOk result (Pays (said stream (outs.Headers headers end) (part_of self.old)) out.old (part_of self.new) out.new) }
         ensures stays { (self.new.role ≡ self.old.role) × (self.new.highest ≡ self.old.highest) }
     {
-        set_trailers(&mut self.streams, i, headers);
+        self.cursor = self.turn_for(i);
+        self.streams.set_trailers(i, headers);
         Ok(())
     }
 
@@ -229,21 +202,21 @@ impl Machine {
         headers: Headers,
         end: bool,
     ) -> Result<(), OutOfMemory>
-        requires row { IsRow stream self.old.streams.items i }
-        requires unopened { IfSome (slice_get self.old.streams.items i) (λ s. is_unopened s.sending ≡ true) }
+        requires row { IsRow stream self.old.streams i }
+        requires unopened { IfSome (slice_get self.old.streams i) (λ s. is_unopened s.sending ≡ true) }
         requires small { list_size headers ≤ max_list }
         ensures pays { OnOk result (Pays (said stream (outs.Headers headers end) (part_of self.old)) out.old (part_of self.new) out.new) }
         ensures stays { (self.new.role ≡ self.old.role) × (self.new.highest ≡ self.old.highest) }
     {
         write_answer(
             self.alloc,
-            &self.streams[i],
+            self.streams.get(i),
             &headers,
             end,
             self.shrink,
             out,
         )?;
-        set_answered(&mut self.streams, i, end);
+        self.streams.set_answered(i, end);
         self.shrink = false;
         Ok(())
     }
@@ -267,12 +240,21 @@ impl Machine {
         ensures pays { OnOk result (Pays (cancelled stream code (part_of self.old)) out.old (part_of self.new) out.new) }
         ensures stays { (self.new.role ≡ self.old.role) × (self.new.highest ≡ self.old.highest) }
     {
-        let Some(i) = place(&self.streams, stream) else {
+        let Some(i) = self.place(stream) else {
             return Ok(());
         };
-        write_reset(&self.streams[i], code, out)?;
-        let _gone = self.streams.remove(i);
+        write_reset(self.streams.get(i), code, out)?;
+        self.streams.remove(i);
         Ok(())
+    }
+
+    /// Where the next turn begins once a stream has more to write: there, if no other has anything left.
+    fn turn_for(&self, i: usize) -> usize {
+        if self.streams.is_idle() {
+            i
+        } else {
+            self.cursor
+        }
     }
 
     /// Begins a stream of a client, unless the peer's limit is reached or the numbers are used up.
@@ -324,7 +306,7 @@ impl Machine {
         };
         self.highest = number;
         self.shrink = false;
-        add(&mut self.streams, row)?;
+        self.streams.add(row)?;
         Ok(())
     }
 
@@ -332,8 +314,8 @@ impl Machine {
     pub(crate) fn waiting(&self, stream: u32) -> u64
         ensures { result ≡ waiting (stream_of stream (part_of self.now)) }
     {
-        match place(&self.streams, stream) {
-            Some(i) => self.streams[i].waits.len() as u64,
+        match self.place(stream) {
+            Some(i) => self.streams.get(i).waits.len() as u64,
             None => 0,
         }
     }
@@ -342,8 +324,8 @@ impl Machine {
     pub(crate) fn may_say(&self, stream: u32) -> bool
         ensures { result ≡ may_say (stream_of stream (part_of self.now)) }
     {
-        match place(&self.streams, stream) {
-            Some(i) => is_sending(&self.streams[i].sending),
+        match self.place(stream) {
+            Some(i) => is_sending(&self.streams.get(i).sending),
             None => false,
         }
     }

@@ -22,6 +22,7 @@ mod peer;
 mod pump;
 mod request;
 mod role;
+mod sayable;
 mod session;
 mod small;
 mod stream;

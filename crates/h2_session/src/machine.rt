@@ -1,11 +1,12 @@
 //! `Machine`.
 
-ghost use Rattle.std.specs.Prelude.{◌<◌, ◌^◌, IsTrue, is_none};
+ghost use Rattle.std.specs.Prelude.{◌≡◌, ◌<◌, ◌^◌, IsTrue, IfSome, is_none, length};
+ghost use Rattle.h2_session.specs.Part.{place_of, IsRow};
 ghost use Rattle.h2_session.specs.Rows.{Rises, Rises-prop, top_of, may_open};
 
 use crate::block::Block;
 use crate::role::Role;
-use crate::stream::Stream;
+use crate::streams::{LiveStreams, find};
 use hpack_tables::Table;
 use std::alloc::Global;
 
@@ -24,11 +25,22 @@ pub(crate) struct Machine {
     pub(crate) window: u32,
     pub(crate) block: Option<Block>,
     pub(crate) table: Table,
-    pub(crate) streams: Vec<Stream>,
+    pub(crate) streams: LiveStreams,
     /// Where the next turn of the streams begins.
     pub(crate) cursor: usize,
     pub(crate) ghost small: { highest < 2 ^ 31 },
     pub(crate) ghost unrefused: { IsTrue (is_none table.refusal) },
     pub(crate) ghost opening: { IsTrue (may_open role block highest) },
-    pub(crate) ghost rises: { Rises 0 streams.items (top_of block highest) } by { Rises-prop 0 streams.items (top_of block highest) },
+    pub(crate) ghost rises: { Rises 0 streams (top_of block highest) } by { Rises-prop 0 streams (top_of block highest) },
+}
+
+impl Machine {
+    /// Where a stream stands.
+    pub(crate) fn place(&self, stream: u32) -> Option<usize>
+        ensures value { result ≡ place_of stream self.now.streams }
+        ensures bound { IfSome result (λ i. i < length self.now.streams) }
+        ensures row { IfSome result (λ i. IsRow stream self.now.streams i) }
+    {
+        find(self.streams.as_slice(), stream)
+    }
 }

@@ -13,7 +13,6 @@ use crate::code::{FIRST_WINDOW, FLOW_CONTROL_ERROR, MAX_WINDOW, PROTOCOL_ERROR, 
 use crate::machine::Machine;
 use crate::role::Role;
 use crate::stream::Stream;
-use crate::streams::place;
 use h2_frames::Frame;
 
 fn is_settings(frame: &Frame) -> bool
@@ -99,12 +98,12 @@ impl Machine {
     }
 
     fn settings_offence(&self, values: &[(u16, u32)]) -> Option<u32>
-        ensures { result ≡ (if list_any (is_bad_setting self.now.role) values.now then Some protocol_error else if list_any (lifts_too_far self.now.streams.items) values.now then Some flow_control_error else None) }
+        ensures { result ≡ (if list_any (is_bad_setting self.now.role) values.now then Some protocol_error else if list_any (lifts_too_far self.now.streams) values.now then Some flow_control_error else None) }
     {
         if any_bad_setting(self.role, values) {
             return Some(PROTOCOL_ERROR);
         }
-        if any_lifts_too_far(&self.streams, values) {
+        if any_lifts_too_far(self.streams.as_slice(), values) {
             return Some(FLOW_CONTROL_ERROR);
         }
         None
@@ -174,8 +173,8 @@ impl Machine {
     fn late_offence(&self, stream: u32) -> Option<u32>
         ensures { result ≡ (if is_ended (stream_of stream (part_of self.now)) then Some stream_closed else None) }
     {
-        match place(&self.streams, stream) {
-            Some(i) if self.streams[i].ended => Some(STREAM_CLOSED),
+        match self.place(stream) {
+            Some(i) if self.streams.get(i).ended => Some(STREAM_CLOSED),
             _ => None,
         }
     }
@@ -183,8 +182,8 @@ impl Machine {
     fn peer_is_open(&self, stream: u32) -> bool
         ensures { result ≡ is_open (stream_of stream (part_of self.now)) }
     {
-        match place(&self.streams, stream) {
-            Some(i) => !self.streams[i].ended,
+        match self.place(stream) {
+            Some(i) => !self.streams.get(i).ended,
             None => false,
         }
     }

@@ -8,6 +8,7 @@ ghost use Rattle.h2_session.specs.Session.{ended};
 use crate::code::{FIRST_WINDOW, TABLE};
 use crate::machine::Machine;
 use crate::role::Role;
+use crate::streams::LiveStreams;
 use hpack_tables::Table;
 use std::alloc::Global;
 
@@ -28,7 +29,7 @@ impl Machine {
             window: FIRST_WINDOW,
             block: None,
             table: Table::new(alloc, TABLE),
-            streams: Vec::new(alloc),
+            streams: LiveStreams::new(alloc),
             cursor: 0,
         }
     }

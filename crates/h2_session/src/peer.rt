@@ -29,7 +29,6 @@ use crate::number::StreamNumber;
 use crate::request::is_malformed;
 use crate::role::Role;
 use crate::stream::{Sending, Stream};
-use crate::streams::{add, end_by_peer, end_if, place, set_flow};
 use crate::waits::Waits;
 use h2_frames::{Frame, Settings, write_frame};
 use hpack_tables::Headers;
@@ -157,7 +156,7 @@ impl Machine {
         ensures pays { OnOk result (Pays (data_on stream bytes size end (stream_of stream (part_of self.old)) (part_of self.old)).part out.old (part_of self.new) out.new) }
         ensures role { self.new.role ≡ self.old.role }
     {
-        match place(&self.streams, stream) {
+        match self.place(stream) {
             None => {
                 grant(out, 0, size)?;
                 Ok(None)
@@ -176,7 +175,7 @@ impl Machine {
         end: bool,
     ) -> Result<Option<SessionEvent>, OutOfMemory>
         requires numbers { (stream < 2 ^ 31) × (size < 2 ^ 31) }
-        requires row { IsRow stream self.old.streams.items i }
+        requires row { IsRow stream self.old.streams i }
         ensures event { IfOk result (λ e. e ≡ Some (events.Piece stream bytes end)) }
         ensures pays { OnOk result (Pays (data_on stream bytes size end (stream_of stream (part_of self.old)) (part_of self.old)).part out.old (part_of self.new) out.new) }
         ensures role { self.new.role ≡ self.old.role }
@@ -197,12 +196,12 @@ impl Machine {
         size: u32,
     ) -> Result<(), OutOfMemory>
         requires size { size < 2 ^ 31 }
-        requires row { IsRow stream self.old.streams.items i }
+        requires row { IsRow stream self.old.streams i }
         ensures pays { OnOk result ((bytes : List ℕ) → Pays (data_on stream bytes size true (stream_of stream (part_of self.old)) (part_of self.old)).part out.old (part_of self.new) out.new) }
         ensures role { self.new.role ≡ self.old.role }
     {
         grant(out, 0, size)?;
-        end_by_peer(&mut self.streams, i);
+        self.streams.end_by_peer(i);
         Ok(())
     }
 
@@ -262,7 +261,7 @@ impl Machine {
         whole: bool,
     ) -> Result<Option<SessionEvent>, Stop>
         requires block { self.old.block ≡ None }
-        requires opens { Opens self.old.role block self.old.streams.items self.old.highest }
+        requires opens { Opens self.old.role block self.old.streams self.old.highest }
         ensures taken { OnOk result (fragment_offence self.old.table.dynamic whole block ≡ None) }
         ensures event { IfOk result (λ e. e ≡ (fragment (Some block) (decoded_of self.old.table.dynamic whole (Some block)) (part_of self.old)).event) }
         ensures pays { OnOk result (Pays (fragment (Some block) (decoded_of self.old.table.dynamic whole (Some block)) (part_of self.old)).part out.old (part_of self.new) out.new) }
@@ -295,7 +294,7 @@ impl Machine {
     ) -> Result<Option<SessionEvent>, OutOfMemory>
         requires block { self.old.block ≡ None }
         requires number { number ≤ self.old.highest }
-        requires rises { Rises 0 self.old.streams.items (number - 1) }
+        requires rises { Rises 0 self.old.streams (number - 1) }
         ensures event { IfOk result (λ e. e ≡ (requested number headers end (part_of self.old)).event) }
         ensures pays { OnOk result (Pays (requested number headers end (part_of self.old)).part out.old (part_of self.new) out.new) }
         ensures stays { (self.new.role ≡ self.old.role) × (self.new.highest ≡ self.old.highest) }
@@ -318,7 +317,7 @@ impl Machine {
             sending: Sending::Unopened,
             waits: Waits::new(self.alloc),
         };
-        add(&mut self.streams, row)?;
+        self.streams.add(row)?;
         Ok(Some(SessionEvent::Headers {
             stream,
             headers,
@@ -338,10 +337,10 @@ impl Machine {
         ensures stays { (self.new.role ≡ self.old.role) × (self.new.highest ≡ self.old.highest) }
     {
         let stream = number.get();
-        match place(&self.streams, stream) {
+        match self.place(stream) {
             None => None,
             Some(i) => {
-                end_if(&mut self.streams, i, end);
+                self.streams.end_if(i, end);
                 Some(SessionEvent::Headers {
                     stream,
                     headers,
@@ -356,10 +355,10 @@ impl Machine {
         ensures part { part_of self.new ≡ (reset_by_peer stream code (part_of self.old)).part }
         ensures role { self.new.role ≡ self.old.role }
     {
-        match place(&self.streams, stream) {
+        match self.place(stream) {
             None => None,
             Some(i) => {
-                let _gone = self.streams.remove(i);
+                self.streams.remove(i);
                 Some(SessionEvent::Reset { stream, code })
             }
         }
@@ -416,7 +415,7 @@ impl Machine {
             self.window += increment;
             return Ok(None);
         }
-        match place(&self.streams, stream) {
+        match self.place(stream) {
             None => Ok(None),
             Some(i) => self.on_live_window(out, i, stream, increment),
         }
@@ -430,7 +429,7 @@ impl Machine {
         increment: u32,
     ) -> Result<Option<SessionEvent>, OutOfMemory>
         requires small { increment ≤ max_window }
-        requires row { IsRow stream self.old.streams.items i }
+        requires row { IsRow stream self.old.streams i }
         ensures event { IfOk result (λ e. e ≡ (updated stream increment (stream_of stream (part_of self.old)) (part_of self.old)).event) }
         ensures pays { OnOk result (Pays (updated stream increment (stream_of stream (part_of self.old)) (part_of self.old)).part out.old (part_of self.new) out.new) }
         ensures role { self.new.role ≡ self.old.role }
@@ -438,9 +437,9 @@ impl Machine {
         if increment == 0 {
             return self.reset(out, i, stream, PROTOCOL_ERROR);
         }
-        match grown_of(&self.streams[i], self.initial, increment) {
+        match grown_of(self.streams.get(i), self.initial, increment) {
             Some(flow) => {
-                set_flow(&mut self.streams, i, flow);
+                self.streams.set_flow(i, flow);
                 Ok(None)
             }
             None => self.reset(out, i, stream, FLOW_CONTROL_ERROR),
@@ -455,13 +454,13 @@ impl Machine {
         stream: u32,
         code: u32,
     ) -> Result<Option<SessionEvent>, OutOfMemory>
-        requires { IsRow stream self.old.streams.items i }
+        requires { IsRow stream self.old.streams i }
         ensures event { IfOk result (λ e. e ≡ Some (events.Reset stream code)) }
         ensures pays { OnOk result (Pays (reset stream code (part_of self.old)).part out.old (part_of self.new) out.new) }
         ensures role { self.new.role ≡ self.old.role }
     {
-        write_reset(&self.streams[i], code, out)?;
-        let _gone = self.streams.remove(i);
+        write_reset(self.streams.get(i), code, out)?;
+        self.streams.remove(i);
         Ok(Some(SessionEvent::Reset { stream, code }))
     }
 }

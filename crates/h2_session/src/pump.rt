@@ -1,19 +1,18 @@
 //! What this end writes on its streams, as their windows and the connection's allow.
 
-ghost use Rattle.std.specs.Prelude.{◌≡◌, ◌<◌, ◌++◌, [], ◌∷◌, OnOk, ◌≤◌, ◌==◌, true, false, length, take, if◌then◌else◌};
+ghost use Rattle.std.specs.Prelude.{◌≡◌, ◌<◌, ◌++◌, [], ◌∷◌, OnOk, IfSome, IfNone, All, ◌≤◌, ◌==◌, true, false, length, take, if◌then◌else◌};
 ghost use Rattle.h2_session.specs.Codes.{no_error};
 ghost use Rattle.h2_frames.specs.declared.frame.Frame.TheVariants as frames;
 ghost use Rattle.h2_frames.specs.Spelling.{IsStreamNumber, spelled};
 ghost use Rattle.h2_session.specs.Machine.{part_of};
 ghost use Rattle.h2_session.specs.Rows.{left_in};
-ghost use Rattle.h2_session.specs.Sent.{Settles, Writes, spellings, is_closing, AreLast};
+ghost use Rattle.h2_session.specs.Sent.{Settles, Writes, spellings, is_closing, IsStuck, AreLast};
 ghost use Rattle.h2_session.specs.Turns.{HasTurn, AreTrailers};
 ghost use Rattle.h2_session.specs.declared.turn.Turn.TheVariants.{Piece as APiece, Trailers as ATrailers};
 
 use crate::code::NO_ERROR;
 use crate::machine::Machine;
 use crate::stream::{Sending, Stream};
-use crate::streams::advance;
 use crate::turn::Turn;
 use crate::turns::{is_closing, next_turn};
 use h2_frames::{Frame, write_data, write_frame};
@@ -77,22 +76,32 @@ impl Machine {
         ensures settles { OnOk result (Settles (part_of self.old) out.old (part_of self.new) out.new) }
         ensures stays { (self.new.role ≡ self.old.role) × (self.new.highest ≡ self.old.highest) }
     {
-        'frames: while let Some((i, turn)) = next_turn(
-            &self.streams,
-            self.cursor,
-            self.initial,
-            self.window,
-        ) {
+        'frames: while let Some((i, turn)) = self.next_turn() {
             self.write_turn(out, i, turn)?;
-            self.cursor = i + 1;
+            self.cursor = i.saturating_add(1);
         }
         Ok(())
     }
 
+    fn next_turn(&self) -> Option<(usize, Turn)>
+        ensures some { IfSome result (λ t. HasTurn self.now.window self.now.initial self.now.streams t.0 t.1) }
+        ensures none { IfNone result (All (IsStuck self.now.window self.now.initial) self.now.streams) }
+    {
+        if self.streams.is_idle() {
+            return None;
+        }
+        next_turn(
+            self.streams.as_slice(),
+            self.cursor,
+            self.initial,
+            self.window,
+        )
+    }
+
     fn write_turn(&mut self, out: &mut Bytes, i: usize, turn: Turn) -> Result<(), OutOfMemory>
-        requires { HasTurn self.old.window self.old.initial self.old.streams.items i turn }
+        requires { HasTurn self.old.window self.old.initial self.old.streams i turn }
         ensures writes { OnOk result (Writes (part_of self.old) out.old (part_of self.new) out.new) }
-        ensures less { OnOk result (left_in self.new.streams.items < left_in self.old.streams.items) }
+        ensures less { OnOk result (left_in self.new.streams < left_in self.old.streams) }
         ensures stays { (self.new.role ≡ self.old.role) × (self.new.highest ≡ self.old.highest) }
     {
         match turn {
@@ -102,28 +111,28 @@ impl Machine {
     }
 
     fn write_piece(&mut self, out: &mut Bytes, i: usize, size: usize) -> Result<(), OutOfMemory>
-        requires { HasTurn self.old.window self.old.initial self.old.streams.items i (APiece size) }
+        requires { HasTurn self.old.window self.old.initial self.old.streams i (APiece size) }
         ensures writes { OnOk result (Writes (part_of self.old) out.old (part_of self.new) out.new) }
-        ensures less { OnOk result (left_in self.new.streams.items < left_in self.old.streams.items) }
+        ensures less { OnOk result (left_in self.new.streams < left_in self.old.streams) }
         ensures stays { (self.new.role ≡ self.old.role) × (self.new.highest ≡ self.old.highest) }
     {
-        let stream = &self.streams[i];
+        let stream = self.streams.get(i);
         let end = ends(stream, size);
         write_row(stream, size, end, out)?;
-        advance(&mut self.streams, i, self.initial, size, end);
+        self.streams.advance(i, self.initial, size, end);
         self.window -= size as u32;
         Ok(())
     }
 
     fn write_trailers(&mut self, out: &mut Bytes, i: usize) -> Result<(), OutOfMemory>
-        requires { HasTurn self.old.window self.old.initial self.old.streams.items i ATrailers }
+        requires { HasTurn self.old.window self.old.initial self.old.streams i ATrailers }
         ensures writes { OnOk result (Writes (part_of self.old) out.old (part_of self.new) out.new) }
-        ensures less { OnOk result (left_in self.new.streams.items < left_in self.old.streams.items) }
+        ensures less { OnOk result (left_in self.new.streams < left_in self.old.streams) }
         ensures stays { (self.new.role ≡ self.old.role) × (self.new.highest ≡ self.old.highest) }
     {
-        write_last(self.alloc, &self.streams[i], self.shrink, out)?;
+        write_last(self.alloc, self.streams.get(i), self.shrink, out)?;
         self.shrink = false;
-        let _gone = self.streams.remove(i);
+        self.streams.remove(i);
         Ok(())
     }
 }

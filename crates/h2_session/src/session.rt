@@ -1,6 +1,6 @@
 //! `Session`.
 
-ghost use Rattle.std.specs.Prelude.{◌≡◌, ◌++◌, ◌≤◌, ◌<◌, ◌^◌, ◌-◌, ◌↔◌, ◌∷◌, min, ℕ, List, [], None, Some, Err, true, false, length, IfOk, IfSome, IsNone, OnOk, OnErr, IsErrOf};
+ghost use Rattle.std.specs.Prelude.{◌≡◌, ◌++◌, ◌≤◌, ◌<◌, ◌^◌, ◌-◌, ◌↔◌, ◌∷◌, min, ℕ, List, [], None, Some, Err, true, false, not, length, IfOk, IfSome, IsNone, OnOk, OnErr, IsErrOf};
 ghost use Rattle.h2_frames.specs.Spelling.{IsSpelling, spelled};
 ghost use Rattle.h2_frames.specs.declared.frame.Frame.TheVariants as frames;
 ghost use Rattle.hpack_tables.specs.Table.{list_size};
@@ -188,6 +188,39 @@ impl Session {
         }
     }
 
+    /// Ends the session as want of memory does, for a caller that found none. It takes no memory.
+    pub fn give_up(&mut self)
+        requires { self.old.fault ≡ None }
+        ensures { self.new ≡ exhausted self.old }
+    {
+        self.exhaust();
+    }
+
+    /// The refusal that is answered for good. It takes no memory.
+    pub fn fault(&self) -> Option<ConnFault>
+        ensures { result ≡ self.now.fault }
+    {
+        self.fault
+    }
+
+    /// Whether this is a client's end. It takes no memory.
+    pub fn is_client(&self) -> bool
+        ensures client { result ≡ true → self.now.part.role ≡ AClient }
+        ensures server { result ≡ false → self.now.part.role ≡ AServer }
+    {
+        match self.machine.role {
+            Role::Server => false,
+            Role::Client => true,
+        }
+    }
+
+    /// Whether the peer's first SETTINGS are still to come. It takes no memory.
+    pub fn is_unopened(&self) -> bool
+        ensures { result ≡ not self.now.part.begun }
+    {
+        !self.machine.begun
+    }
+
     /// How many bytes of a stream wait for a window. It takes no memory.
     pub fn waiting(&self, stream: u32) -> u64
         ensures { result ≡ waiting (stream_of stream self.now.part) }
@@ -207,6 +240,14 @@ impl Session {
         ensures { result ≡ may_say (stream_of stream self.now.part) }
     {
         self.machine.may_say(stream)
+    }
+
+    /// Whether this may be handed in on a stream as it stands, so that `send` takes it. It takes no memory.
+    pub fn may_send(&self, stream: u32, what: &Out) -> bool
+        ensures yes { result ≡ true → (may_say (stream_of stream self.now.part) ≡ true) × IsSayable self.now.part.role what.now (stream_of stream self.now.part) }
+        ensures no { IsSayable self.now.part.role what.now (stream_of stream self.now.part) → result ≡ true }
+    {
+        self.machine.may_send(stream, what)
     }
 
     /// The output that wasn't taken yet. It takes no memory.

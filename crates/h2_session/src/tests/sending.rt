@@ -1,219 +1,168 @@
 //! What is written on streams, and when.
 
-ghost use Rattle.std.specs.Prelude.{◌≡◌, ◌≤◌, true};
-ghost use Rattle.hpack_tables.specs.Table.{list_size};
-ghost use Rattle.h2_session.specs.Codes.{max_list};
-ghost use Rattle.h2_session.specs.Machine.{part_of};
-ghost use Rattle.h2_session.specs.Part.{stream_of};
-ghost use Rattle.h2_session.specs.Said.{is_sending, may_say, IsSayable, IsSayableNow};
-
-use crate::event::Out;
-use crate::machine::Machine;
-use crate::role::Role;
-use crate::stream::Sending;
-use crate::streams::place;
-use crate::tests::{REQUEST, Step, frame_of, is_writable};
-use h2_frames::write_frame;
-use hpack_tables::{Header, Headers};
-use proto_wire::Bytes;
+use crate::session::Session;
+use crate::tests::{
+    Call, ENDED, OPEN, REQUEST, SETTINGS, Step, new_session, perform, perform_all, written,
+};
 use std::alloc::Global;
 use std::process::Abort;
 use std::test::Fail;
 
-fn one_header(alloc: Global, name: &[u8], value: &[u8]) -> Result<Headers, Fail> {
-    let mut headers = Headers::new(alloc);
-    headers.push(Header {
-        name: Bytes::copy_of(alloc, name)?,
-        value: Bytes::copy_of(alloc, value)?,
-    })?;
-    Ok(headers)
-}
+/// Whether it is a client's end, what happens, and what is written.
+type Row = (bool, &'static [Call<'static>], &'static [u8]);
 
-/// Whether these are one small header.
-fn is_small(headers: &Headers) -> bool
-    ensures { result ≡ true → list_size headers.now ≤ max_list }
-{
-    match headers.as_slice() {
-        [header] => header.name.len() <= 1000 && header.value.len() <= 1000,
-        _ => false,
-    }
-}
+const ROWS: &[Row] = &[
+    // an answer, after a request that has ended, and after one that hasn't
+    (
+        false,
+        &[
+            SETTINGS,
+            ENDED,
+            Call::Status(1),
+            Call::Piece(1, b"hello", false),
+            Call::Trailers(1),
+        ],
+        b"\0\0\0\x04\x01\0\0\0\0\0\0\x01\x01\x04\0\0\0\x01\x88\0\0\x05\0\0\0\0\0\x01hello\0\0\x0f\x01\x05\0\0\0\x01\0\x0bgrpc-status\x010",
+    ),
+    (
+        false,
+        &[SETTINGS, OPEN, Call::Trailers(1)],
+        b"\0\0\0\x04\x01\0\0\0\0\0\0\x0f\x01\x05\0\0\0\x01\0\x0bgrpc-status\x010\0\0\x04\x03\0\0\0\0\x01\0\0\0\0",
+    ),
+    // bytes wait for their window, which a WINDOW_UPDATE and SETTINGS move
+    (
+        false,
+        &[
+            Call::Take(Step::Settings(&[(4, 0)])),
+            OPEN,
+            Call::Status(1),
+            Call::Piece(1, b"hello, world", false),
+            Call::Trailers(1),
+            Call::Take(Step::Window(1, 10)),
+            Call::Take(Step::Settings(&[(4, 2)])),
+        ],
+        b"\0\0\0\x04\x01\0\0\0\0\0\0\x01\x01\x04\0\0\0\x01\x88\0\0\x0a\0\0\0\0\0\x01hello, wor\0\0\0\x04\x01\0\0\0\0\0\0\x02\0\0\0\0\0\x01ld\0\0\x0f\x01\x05\0\0\0\x01\0\x0bgrpc-status\x010\0\0\x04\x03\0\0\0\0\x01\0\0\0\0",
+    ),
+    // SETTINGS take a window below 0: six bytes of WINDOW_UPDATE lift it to 0, and one more lets a byte go
+    (
+        false,
+        &[
+            Call::Take(Step::Settings(&[(4, 10)])),
+            ENDED,
+            Call::Status(1),
+            Call::Piece(1, b"0123456789", false),
+            Call::Take(Step::Settings(&[(4, 4)])),
+            Call::Piece(1, b"ab", false),
+            Call::Take(Step::Window(1, 6)),
+            Call::Take(Step::Window(1, 1)),
+        ],
+        b"\0\0\0\x04\x01\0\0\0\0\0\0\x01\x01\x04\0\0\0\x01\x88\0\0\x0a\0\0\0\0\0\x010123456789\0\0\0\x04\x01\0\0\0\0\0\0\x01\0\0\0\0\0\x01a",
+    ),
+    // a stream that is reset sends nothing more
+    (
+        false,
+        &[
+            Call::Take(Step::Settings(&[(4, 0)])),
+            ENDED,
+            Call::Status(1),
+            Call::Piece(1, b"hello", false),
+            Call::Cancel(1, 8),
+            Call::Take(Step::Window(1, 10)),
+        ],
+        b"\0\0\0\x04\x01\0\0\0\0\0\0\x01\x01\x04\0\0\0\x01\x88\0\0\x04\x03\0\0\0\0\x01\0\0\0\x08",
+    ),
+    // a client begins streams, half-closes with an empty DATA, and reads an answer
+    (
+        true,
+        &[
+            SETTINGS,
+            Call::Begin,
+            Call::Begin,
+            Call::Piece(1, b"", true),
+            Call::Piece(3, b"hi", true),
+            Call::Take(Step::Headers(1, b"\x88", false, true)),
+            Call::Take(Step::Data(1, b"abc", true)),
+        ],
+        b"\0\0\0\x04\x01\0\0\0\0\0\0\x01\x01\x04\0\0\0\x01\x84\0\0\x01\x01\x04\0\0\0\x03\x84\0\0\0\0\x01\0\0\0\x01\0\0\x02\0\x01\0\0\0\x03hi\0\0\x04\x08\0\0\0\0\0\0\0\0\x03",
+    ),
+];
 
-fn is_sayable_now(role: Role, what: &Out, sending: &Sending) -> bool
-    ensures { result ≡ true → (is_sending sending.now ≡ true) × IsSayableNow role what.now sending.now }
-{
-    match (role, what, sending) {
-        (Role::Server, Out::Headers { headers, .. }, Sending::Unopened) => is_small(headers),
-        (Role::Server, Out::Headers { headers, end }, Sending::Open) => *end && is_small(headers),
-        (Role::Server, Out::Piece { end, .. }, Sending::Open) => !*end,
-        (Role::Client, Out::Piece { .. }, Sending::Open) => true,
-        _ => false,
+#[test]
+fn streams_are_written(rt: HostRuntime) -> Result<(), Fail> {
+    'rows: for (is_client, calls, wanted) in ROWS {
+        let (out, _session) = written(rt.alloc(), *is_client, calls)?;
+        assert_eq!(rt; out.as_slice(), *wanted);
     }
-}
-
-fn is_sayable(machine: &Machine, stream: u32, what: &Out) -> bool
-    ensures { result ≡ true → (may_say (stream_of stream (part_of machine.now)) ≡ true) × IsSayable machine.now.role what.now (stream_of stream (part_of machine.now)) }
-{
-    match place(&machine.streams, stream) {
-        Some(i) => is_sayable_now(machine.role, what, &machine.streams[i].sending),
-        None => false,
-    }
-}
-
-fn say(machine: &mut Machine, out: &mut Bytes, stream: u32, what: Out) -> Result<(), Fail> {
-    if !is_sayable(machine, stream, &what) {
-        return Err("not sayable".into());
-    }
-    machine.send(out, stream, what)?;
     Ok(())
 }
 
-/// What a test does.
-#[derive(Clone, Copy)]
-enum Call<'a> {
-    /// Hands in `:status: 200` on stream 1.
-    Status,
-    /// Hands in `grpc-status: 0` on stream 1, which ends it.
-    Trailers,
-    /// Hands in bytes on stream 1, with which a client may half-close it.
-    Piece(&'a [u8], bool),
-    /// Takes a frame.
-    Take(Step<'a>),
-    /// Resets stream 1.
-    Cancel(u32),
-    /// Begins a stream of a client.
-    Begin,
-}
-
-fn take(alloc: Global, machine: &mut Machine, out: &mut Bytes, step: Step<'_>) -> Result<(), Fail> {
-    let frame = frame_of(alloc, step)?;
-    if !is_writable(&frame) {
-        return Err("not a frame".into());
-    }
-    let mut text = Bytes::new(alloc);
-    write_frame(&frame, &mut text)?;
-    machine.on_frame(out, frame).ok().ok_or("refused")?;
-    Ok(())
-}
-
-fn begin(alloc: Global, machine: &mut Machine, out: &mut Bytes) -> Result<(), Fail> {
-    let headers = one_header(alloc, b":path", b"/")?;
-    if machine.role.is_server() || !is_small(&headers) {
-        return Err("not a client".into());
-    }
-    machine.begin(out, &headers)?;
-    Ok(())
-}
-
-/// What is handed in.
-fn out_of(alloc: Global, call: Call<'_>) -> Result<Option<Out>, Fail> {
-    match call {
-        Call::Status => Ok(Some(Out::Headers {
-            headers: one_header(alloc, b":status", b"200")?,
-            end: false,
-        })),
-        Call::Trailers => Ok(Some(Out::Headers {
-            headers: one_header(alloc, b"grpc-status", b"0")?,
-            end: true,
-        })),
-        Call::Piece(bytes, end) => Ok(Some(Out::Piece {
-            bytes: Bytes::copy_of(alloc, bytes)?,
-            end,
-        })),
-        _ => Ok(None),
-    }
-}
-
-fn perform(
-    alloc: Global,
-    machine: &mut Machine,
-    out: &mut Bytes,
-    call: Call<'_>,
-) -> Result<(), Fail> {
-    if let Some(what) = out_of(alloc, call)? {
-        return say(machine, out, 1, what);
-    }
-    match call {
-        Call::Take(step) => take(alloc, machine, out, step),
-        Call::Cancel(code) => {
-            machine.cancel(out, 1, code)?;
-            Ok(())
+/// The sizes and the streams of the DATA frames among these frames.
+fn pieces_of(alloc: Global, mut bytes: &[u8]) -> Result<Vec<(u16, u8)>, Fail> {
+    let mut pieces = Vec::new(alloc);
+    'frames: while let [_, high, low, kind, _, _, _, _, stream, rest @ ..] = bytes {
+        let size = u16::from_be_bytes([*high, *low]);
+        if size as usize > rest.len() {
+            return Err("cut off".into());
         }
-        Call::Begin => begin(alloc, machine, out),
-        _ => Ok(()),
+        if *kind == 0 {
+            pieces.push((size, *stream))?;
+        }
+        bytes = &rest[size as usize..];
     }
+    Ok(pieces)
 }
 
-/// What this end writes for these calls.
-fn written(alloc: Global, role: Role, calls: &[Call<'_>]) -> Result<Bytes, Fail> {
-    let mut machine = Machine::new(alloc, role);
-    let mut out = Bytes::new(alloc);
-    'calls: for one in calls {
-        perform(alloc, &mut machine, &mut out, *one)?;
-    }
-    Ok(out)
+/// A server with two requests, at an initial window, on whose first stream so many bytes were handed in, and five on the other.
+fn two_answers(alloc: Global, initial: u32, len: usize) -> Result<Session, Fail> {
+    let mut session = new_session(alloc, false)?;
+    let long = vec![in alloc; 0; len]?;
+    perform(
+        alloc,
+        &mut session,
+        Call::Take(Step::Settings(&[(4, initial)])),
+    )?;
+    perform(alloc, &mut session, ENDED)?;
+    perform(
+        alloc,
+        &mut session,
+        Call::Take(Step::Headers(3, REQUEST, true, true)),
+    )?;
+    perform(alloc, &mut session, Call::Status(1))?;
+    perform(alloc, &mut session, Call::Status(3))?;
+    perform(alloc, &mut session, Call::Piece(1, long.as_slice(), false))?;
+    perform(alloc, &mut session, Call::Piece(3, b"short", false))?;
+    Ok(session)
 }
 
-/// A request that the client has ended.
-const ASKED: Call<'static> = Call::Take(Step::Headers(1, REQUEST, true, true));
+/// The DATA frames that a session writes for a frame.
+fn pieces_for(
+    alloc: Global,
+    session: &mut Session,
+    step: Step<'_>,
+) -> Result<Vec<(u16, u8)>, Fail> {
+    let _earlier = session.take_output();
+    perform_all(alloc, session, &[Call::Take(step)])?;
+    pieces_of(alloc, session.take_output().as_slice())
+}
 
 #[test]
-fn a_request_is_answered(rt: HostRuntime) -> Result<(), Fail> {
-    let calls = [
-        Call::Take(Step::Settings(&[])),
-        ASKED,
-        Call::Status,
-        Call::Piece(b"hello", false),
-        Call::Trailers,
-    ];
-    let out = written(rt.alloc(), Role::Server, &calls)?;
-    let wanted =
-        b"\0\0\0\x04\x01\0\0\0\0\0\0\x01\x01\x04\0\0\0\x01\x88\0\0\x05\0\0\0\0\0\x01hello\0\0\x0f\x01\x05\0\0\0\x01\0\x0bgrpc-status\x010";
-    assert_eq!(rt; out.as_slice(), wanted.as_slice());
+fn a_short_answer_is_not_kept_behind_a_long_one(rt: HostRuntime) -> Result<(), Fail> {
+    let mut session = two_answers(rt.alloc(), 0, 20_000)?;
+    let pieces = pieces_for(rt.alloc(), &mut session, Step::Settings(&[(4, 65_535)]))?;
+    assert_eq!(rt;
+        pieces.as_slice(),
+        [(16_384, 1), (5, 3), (3_616, 1)].as_slice()
+    );
     Ok(())
 }
 
 #[test]
-fn bytes_wait_for_their_window(rt: HostRuntime) -> Result<(), Fail> {
-    let calls = [
-        Call::Take(Step::Settings(&[(4, 0)])),
-        Call::Take(Step::Headers(1, REQUEST, false, true)),
-        Call::Status,
-        Call::Piece(b"hello, world", false),
-        Call::Trailers,
-        Call::Take(Step::Window(1, 10)),
-        Call::Take(Step::Settings(&[(4, 2)])),
-    ];
-    let out = written(rt.alloc(), Role::Server, &calls)?;
-    let wanted =
-        b"\0\0\0\x04\x01\0\0\0\0\0\0\x01\x01\x04\0\0\0\x01\x88\0\0\x0a\0\0\0\0\0\x01hello, wor\0\0\0\x04\x01\0\0\0\0\0\0\x02\0\0\0\0\0\x01ld\0\0\x0f\x01\x05\0\0\0\x01\0\x0bgrpc-status\x010\0\0\x04\x03\0\0\0\0\x01\0\0\0\0";
-    assert_eq!(rt; out.as_slice(), wanted.as_slice());
-    Ok(())
-}
-
-#[test]
-fn a_cancelled_stream_sends_nothing(rt: HostRuntime) -> Result<(), Fail> {
-    let calls = [
-        Call::Take(Step::Settings(&[(4, 0)])),
-        ASKED,
-        Call::Status,
-        Call::Piece(b"hello", false),
-        Call::Cancel(8),
-        Call::Take(Step::Window(1, 10)),
-    ];
-    let out = written(rt.alloc(), Role::Server, &calls)?;
-    let wanted =
-        b"\0\0\0\x04\x01\0\0\0\0\0\0\x01\x01\x04\0\0\0\x01\x88\0\0\x04\x03\0\0\0\0\x01\0\0\0\x08";
-    assert_eq!(rt; out.as_slice(), wanted.as_slice());
-    Ok(())
-}
-
-#[test]
-fn a_client_half_closes(rt: HostRuntime) -> Result<(), Fail> {
-    let calls = [Call::Begin, Call::Begin, Call::Piece(b"", true)];
-    let out = written(rt.alloc(), Role::Client, &calls)?;
-    let wanted =
-        b"\0\0\x01\x01\x04\0\0\0\x01\x84\0\0\x01\x01\x04\0\0\0\x03\x84\0\0\0\0\x01\0\0\0\x01";
-    assert_eq!(rt; out.as_slice(), wanted.as_slice());
+fn answers_wait_for_the_window_of_the_connection(rt: HostRuntime) -> Result<(), Fail> {
+    let mut session = two_answers(rt.alloc(), 100_000, 65_536)?;
+    assert_eq!(rt; session.waiting(1), 1);
+    assert_eq!(rt; session.waiting(3), 5);
+    let pieces = pieces_for(rt.alloc(), &mut session, Step::Window(0, 6))?;
+    // stream 1 had its turn
+    assert_eq!(rt; pieces.as_slice(), [(5, 3), (1, 1)].as_slice());
     Ok(())
 }

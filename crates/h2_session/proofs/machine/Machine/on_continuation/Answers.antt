@@ -11,4 +11,4 @@ invariant_of-self-clause-rises c =
     let m = c.args.self.now in
     let t = top_none c.take.new.self m.highest c.take.ensures.after in
     let l = top_small m.role m.block m.highest m.opening in
-    Rises-higher 0 m.streams.items (top_of m.block m.highest) (top_of c.take.new.self m.highest) (omega (arith, t, l)) m.rises
+    Rises-higher 0 m.streams (top_of m.block m.highest) (top_of c.take.new.self m.highest) (omega (arith, t, l)) m.rises

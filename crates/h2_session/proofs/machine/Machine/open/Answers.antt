@@ -18,7 +18,7 @@ invariant_of-self-clause-rises c =
     let t = top_client m.role m.block m.highest c.requires.client m.opening in
     let u = top_client m.role m.block c.args.number c.requires.client (open_client m.role m.block m.highest c.args.number c.requires.client m.opening) in
     let l : m.highest < c.args.number = subst (λ (x : ℕ). m.highest < x) (sym c.requires.number.0) (above m.highest) in
-    let k = subst (λ (x : ℕ). Rises 0 m.streams.items x) t m.rises in
+    let k = subst (λ (x : ℕ). Rises 0 m.streams x) t m.rises in
     either c.add.result c.add.ensures.ok c.add.ensures.err
-    (λ h. subst (λ (x : List Stream). Rises 0 x (top_of m.block c.args.number)) (sym h) (Rises-add 0 m.streams.items m.highest (top_of m.block c.args.number) _ (omega (arith, l, c.new.ensures)) (omega (arith, u, c.new.ensures)) k))
-    (λ h. subst (λ (x : List Stream). Rises 0 x (top_of m.block c.args.number)) (sym h) (subst (λ (x : ℕ). Rises 0 m.streams.items x) (sym u) (Rises-higher 0 m.streams.items m.highest c.args.number (omega arith) k)))
+    (λ h. subst (λ (x : List Stream). Rises 0 x (top_of m.block c.args.number)) (sym h) (Rises-add 0 m.streams m.highest (top_of m.block c.args.number) _ (omega (arith, l, c.new.ensures)) (omega (arith, u, c.new.ensures)) k))
+    (λ h. subst (λ (x : List Stream). Rises 0 x (top_of m.block c.args.number)) (sym h) (subst (λ (x : ℕ). Rises 0 m.streams x) (sym u) (Rises-higher 0 m.streams m.highest c.args.number (omega arith) k)))

@@ -12,4 +12,4 @@ invariant-frames l = record {
 }
 
 abbrev pub decreases-frames : goal.decreases-frames
-decreases-frames l = left_in l.self.streams.items
+decreases-frames l = left_in l.self.streams

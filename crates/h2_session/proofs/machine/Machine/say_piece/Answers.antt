@@ -13,7 +13,7 @@ invariant_of-self-clause-rises c =
     let r = c.requires in
     let m = c.args.self.now in
     either c.add_piece.result c.add_piece.ensures.ok c.add_piece.ensures.err
-    (λ h. let e = MatchOption-at_some _ _ r.row r.at h in subst (λ (x : List Stream). Rises 0 x (top_of c.args.self.now.block c.args.self.now.highest)) (sym e) (Rises-said 0 m.streams.items (top_of c.args.self.now.block c.args.self.now.highest) c.args.i c.args.bytes c.args.end r.row r.at m.rises))
+    (λ h. let e = MatchOption-at_some _ _ r.row r.at h in subst (λ (x : List Stream). Rises 0 x (top_of c.args.self.now.block c.args.self.now.highest)) (sym e) (Rises-said 0 m.streams (top_of c.args.self.now.block c.args.self.now.highest) c.args.i c.args.bytes c.args.end r.row r.at m.rises))
     (λ h. subst (λ (x : List Stream). Rises 0 x (top_of c.args.self.now.block c.args.self.now.highest)) (sym h) m.rises)
 
 pub returns-clause-pays : goal.returns-clause-pays

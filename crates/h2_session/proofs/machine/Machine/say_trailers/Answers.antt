@@ -12,7 +12,7 @@ pub invariant_of-self-clause-rises : goal.invariant_of-self-clause-rises
 invariant_of-self-clause-rises c =
     let r = c.requires.row in
     let e = MatchOption-at_some _ _ r.row r.at c.set_trailers.ensures in
-    subst (λ (x : List Stream). Rises 0 x (top_of c.args.self.now.block c.args.self.now.highest)) (sym e) (Rises-set 0 c.args.self.now.streams.items (top_of c.args.self.now.block c.args.self.now.highest) c.args.i r.row _ r.at refl c.args.self.now.rises)
+    subst (λ (x : List Stream). Rises 0 x (top_of c.args.self.now.block c.args.self.now.highest)) (sym e) (Rises-set 0 c.args.self.now.streams (top_of c.args.self.now.block c.args.self.now.highest) c.args.i r.row _ r.at refl c.args.self.now.rises)
 
 pub returns-clause-pays : goal.returns-clause-pays
 returns-clause-pays c =
