@@ -1,0 +1,9 @@
+pub mod StayLaws
+pub mod MessageLaws
+pub mod FramedLaws
+pub mod HeaderLaws
+pub mod EscapeLaws
+pub mod TableLaws
+pub mod FrameLaws
+pub mod ReplyLaws
+pub mod StepLaws

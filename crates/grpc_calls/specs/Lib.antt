@@ -1,0 +1,11 @@
+pub mod Codes
+pub mod Escape
+pub mod Prefix
+pub mod Framing
+pub mod Unfinished
+pub mod Reading
+pub mod Headers
+pub mod Streams
+pub mod Table
+pub mod Calls
+pub mod Held
