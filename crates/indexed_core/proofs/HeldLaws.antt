@@ -16,7 +16,7 @@ use Rattle.lease_table.specs.Table as table
 use Rattle.lease_table.specs.Table.{Table, Distinct, DistinctDigests, guarded, is_blob, other_digests, unguarded}
 use Rattle.lease_table.proofs.OrderLaws.{distinct_kept, all_others}
 use Rattle.indexed_core.specs.Joined.{Soundness, IsJoined, row_in, rows_in}
-use Rattle.indexed_core.specs.Parts.{Guards, guarded_bytes, is_wanted}
+use Rattle.indexed_core.specs.Parts.{Guards, guarded_bytes}
 use Rattle.indexed_core.proofs.ReachedRows.{first_in_order, rows_wanted}
 
 -- ---- digests that are kept

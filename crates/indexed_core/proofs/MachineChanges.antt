@@ -26,9 +26,9 @@ use Rattle.store_core.proofs.Kept.{follows_filter}
 use Rattle.store_core.proofs.RowLaws.{others_row}
 use Rattle.lease_table.specs.Holds.{with_holder}
 use Rattle.lease_table.specs.Table.{has_id, roots}
-use Rattle.indexed_core.specs.Parts.{Parts, Guards, free, is_wanted, table_lease, table_leases, guards_of}
-use Rattle.indexed_core.specs.Removal.{removed}
-use Rattle.indexed_core.proofs.MachineLaws.{free_are, leases_more, leases_less, next_removed, among_free, wanted_is}
+use Rattle.indexed_core.specs.Parts.{Parts, Guards, free, is_wanted, table_lease, table_leases, guards_of, HasPassed}
+use Rattle.indexed_core.specs.Removal.{removed, IsPassed}
+use Rattle.indexed_core.proofs.MachineLaws.{free_are, guards_are, passed_state, leases_more, leases_less, next_removed, among_free, wanted_is}
 use Rattle.indexed_core.proofs.MachinePuts.{Fits, no_row, has_none, have_rows}
 use Rattle.indexed_core.proofs.ReachedRows.{first_fails}
 use Rattle.indexed_core.proofs.StandingOf.{root_of_own}
@@ -203,6 +203,13 @@ pub first_change : (s : State) (p : Parts) (guards : Guards) (o : Option HashAnd
     → IfNone o (p ≡ record { rows = s.rows; guards = guards }) → IsKept s → (p.guards.leases ≡ table_leases s.leases) × IsKept (record s { rows = p.rows; holds = p.guards.holds })
 first_change s p guards (Some d) same is some none kept = rows_change s p guards (others d s.rows) same some (kept_follows s _ (follows_filter s (λ row. not (is_of d row)) (held_others s d (first_unguarded s d (sym is)))) kept)
 first_change s p guards None same is some none kept = rows_change s p guards s.rows same none kept
+
+-- and a pass goes on at the same place
+pub first_passed : (s : State) (p : Parts) (guards : Guards) (o from : Option HashAndSize) → guards ≡ guards_of s → o ≡ slice_get (unguarded s) 0 → IfSome o (λ d. p ≡ record { rows = others d s.rows; guards = guards })
+    → IfNone o (p ≡ record { rows = s.rows; guards = guards }) → IsKept s → HasPassed p from → IsPassed (record s { rows = p.rows; holds = p.guards.holds }) from
+first_passed s p guards o from same is some none kept passed =
+    let now : State = record s { rows = p.rows; holds = p.guards.holds } in
+    passed_state now p from refl (guards_are now p.guards (first_change s p guards o same is some none kept).0 refl) passed
 
 first_holds : {X : Type 0} (P : X → Type 0) (xs : List X) (o : Option X) → o ≡ slice_get xs 0 → AllByRecursion P xs → IfSome o P
 first_holds P [] (Some x) e h = absurd cc

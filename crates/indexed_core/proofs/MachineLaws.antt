@@ -1,5 +1,5 @@
 -- A state by its rows and what guards them, and rows that go one after the other.
-use Rattle.std.proofs.Common.{◌≡◌, ℕ, zero, suc, ◌+◌, ◌-◌, ◌<◌, ◌≤◌, Bool, true, false, cond, not, List, [], ◌∷◌, ◌++◌, length, take, drop, add-one, Some, inl, inr, refl, sym, ap, subst, ◌∙◌, arith}
+use Rattle.std.proofs.Common.{◌≡◌, ℕ, zero, suc, ◌+◌, ◌-◌, ◌<◌, ◌≤◌, Bool, true, false, cond, not, List, [], ◌∷◌, ◌++◌, length, take, drop, add-one, Option, Some, inl, inr, refl, sym, ap, subst, ◌∙◌, arith}
 use Rattle.std.specs.Prelude.{filter, slice_get, ◌||◌, ◌&&◌}
 use Rattle.std.specs.List.{AllByRecursion}
 use Rattle.std.proofs.Math.Seq.{take-suc, drop-cons}
@@ -26,9 +26,9 @@ use Rattle.store_core.proofs.RowLaws.{Differs}
 use Rattle.store_core.proofs.Same.{same_from_equal}
 use Rattle.store_core.proofs.FirstMentions.{filter_both}
 use Rattle.lease_table.specs.declared.table_lease.TableLease.{TableLease}
-use Rattle.lease_table.specs.Table.{has_id, roots}
-use Rattle.indexed_core.specs.Parts.{Parts, Guards, is_wanted, guarded_bytes, free, table_lease, table_leases, guards_of}
-use Rattle.indexed_core.specs.Removal.{removed}
+use Rattle.lease_table.specs.Table.{has_id, roots, from_on}
+use Rattle.indexed_core.specs.Parts.{Parts, Guards, is_wanted, guarded_bytes, free, table_lease, table_leases, guards_of, HasPassed}
+use Rattle.indexed_core.specs.Removal.{removed, IsPassed}
 
 -- ---- filters
 
@@ -67,6 +67,18 @@ wanted_is s p d rows guards = ap (λ (q : Parts). is_wanted q d) (parts_are s p 
 pub free_are : (s : State) (p : Parts) → p.rows ≡ s.rows → p.guards ≡ guards_of s → free p ≡ unguarded s
 free_are s p rows guards =
     ap free (parts_are s p rows guards) ∙ ap (λ (test : HashAndSize → Bool). filter (λ d. not (test d)) (digests s.rows)) (λ i d. wanted_of s d i)
+
+-- a pass goes on at the same place in a state and in its index
+abbrev PassedBy : List HashAndSize → Option HashAndSize → (HashAndSize → Bool) → Type 0
+PassedBy ds from test = filter (λ d. not (test d)) (from_on from ds) ≡ filter (λ d. not (test d)) ds
+
+pub passed_state : (s : State) (p : Parts) (from : Option HashAndSize) → p.rows ≡ s.rows → p.guards ≡ guards_of s → HasPassed p from → IsPassed s from
+passed_state s p from rows guards passed =
+    subst (PassedBy (digests s.rows) from) (λ i d. wanted_of s d i) (subst (λ (q : Parts). HasPassed q from) (parts_are s p rows guards) passed)
+
+pub passed_index : (s : State) (p : Parts) (from : Option HashAndSize) → p.rows ≡ s.rows → p.guards ≡ guards_of s → IsPassed s from → HasPassed p from
+passed_index s p from rows guards passed =
+    subst (λ (q : Parts). HasPassed q from) (sym (parts_are s p rows guards)) (subst (PassedBy (digests s.rows) from) (λ i d. sym (wanted_of s d) i) passed)
 
 pub leases_more : (leases : List Lease) (held : List TableLease) (lease : Lease) → held ≡ table_leases leases → held ++ table_lease lease ∷ [] ≡ table_leases (leases ++ lease ∷ [])
 leases_more leases held lease e = ap (λ (ls : List TableLease). ls ++ table_lease lease ∷ []) e ∙ sym (map-append table_lease leases (lease ∷ []))

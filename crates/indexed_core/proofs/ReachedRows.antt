@@ -1,6 +1,6 @@
 -- What leases reach among the rows of an index, which is what they reach among the blobs of its table.
 use Rattle.std.proofs.lemmas.Option.{same_Some}
-use Rattle.std.proofs.Common.{◌≡◌, ℕ, zero, suc, Bool, true, not, ◌||◌, ◌&&◌, List, [], ◌∷◌, map, Some, Contains, inl, inr, refl, sym, ap, subst, ◌∙◌, arith, cond, false}
+use Rattle.std.proofs.Common.{◌≡◌, ℕ, zero, suc, Bool, true, not, ◌||◌, ◌&&◌, List, [], ◌∷◌, map, Option, Some, None, Contains, inl, inr, refl, sym, ap, subst, ◌∙◌, arith, cond, false}
 use Rattle.std.specs.Prelude.{filter, find, slice_get}
 use Rattle.std.specs.List.{list_any}
 use Rattle.std.proofs.lemmas.Bool.{cond-true, cond-false}
@@ -10,15 +10,15 @@ use Rattle.directory_canon.specs.declared.node.Edge.{Edge}
 use Rattle.store_core.specs.State.{same, is_among, is_held, digests}
 use Rattle.store_core.specs.Reach.{Linked, blobs, as_dir, as_file, pair_cmp, is_dir, within, reaches, reached, is_reached, is_nearer, is_deep}
 use Rattle.store_core.proofs.AscendingLaws.{Alike, equal_sorted, pair_exact}
-use Rattle.store_core.proofs.Elements.{every_has, every_contains, filter_same_on, has_cases, has_first, has_from_filter, has_from_map, has_map}
+use Rattle.store_core.proofs.Elements.{every_has, every_contains, filter_same_on, has_cases, has_first, has_from_filter, has_from_map, has_later, has_map}
 use Rattle.store_core.proofs.ReachLaws.{any_passes, order_changes_nothing, same_tests, some_passes, within_cases, within_next, within_root}
 use Rattle.store_core.proofs.ReachedLaws.{reached_members, reached_sorted}
 use Rattle.store_core.proofs.Same.{equal_from_same, not_same_from_other, same_from_equal, same_itself}
 use Rattle.store_core.proofs.Passes.{among_has}
 use Rattle.lease_table.specs.Table as table
-use Rattle.lease_table.specs.Table.{Table, Distinct, is_blob, is_guarded, roots, unguarded}
+use Rattle.lease_table.specs.Table.{Table, Distinct, is_blob, is_guarded, roots, unguarded, from_digest, from_on, IsPassed}
 use Rattle.indexed_core.specs.Joined.{Soundness, IsJoined, edges_if, edges_in, rows_in}
-use Rattle.indexed_core.specs.Parts.{Guards, free, is_wanted}
+use Rattle.indexed_core.specs.Parts.{Guards, free, is_wanted, HasPassed}
 
 -- ---- digests
 
@@ -106,6 +106,20 @@ module _ (there other : List Linked) (alike : Alike there other) (starts : List 
       ap (λ (test : Edge → Bool). list_any (λ pair. is_dir pair && not (test pair)) (reached other starts)) (λ i pair. same_nearer steps pair i)
       ∙ ap (list_any (λ pair. is_dir pair && not (is_nearer there starts steps pair))) same_reached
 
+-- ---- digests from one on
+
+from_has : (d q : HashAndSize) (ds : List HashAndSize) → Contains (from_digest d ds) q → Contains ds q
+from_has d q [] has = has
+from_has d q (x ∷ ds) has = by (same d x) (from_has d q ds) has
+  where
+    by : (b : Bool) → (Contains (from_digest d ds) q → Contains ds q) → Contains (cond b (x ∷ ds) (from_digest d ds)) q → Contains (x ∷ ds) q
+    by true later has = has
+    by false later has = has_later x q ds (later has)
+
+from_on_has : (from : Option HashAndSize) (q : HashAndSize) (ds : List HashAndSize) → Contains (from_on from ds) q → Contains ds q
+from_on_has None q ds has = has
+from_on_has (Some d) q ds has = from_has d q ds has
+
 -- ---- the rows of an index
 
 module _ (order : List HashAndSize) (there : List Linked) (flags : Soundness) (used : ℕ) (joined : IsJoined order there flags used) where
@@ -150,12 +164,34 @@ module _ (order : List HashAndSize) (there : List Linked) (flags : Soundness) (u
       ap (λ (b : Bool). not (b && table.is_wanted (record { blobs = there; leases = guards.leases; holds = guards.holds }) d)) (joined.has_blobs d ∙ among_has order d has)
       ∙ ap not (sym (rows_wanted guards d))
 
+  -- those of some digests of rows that aren't guarded
+  free_among : (guards : Guards) (ds : List HashAndSize) → ((d : HashAndSize) → Contains ds d → Contains order d)
+      → unguarded (record { blobs = there; leases = guards.leases; holds = guards.holds }) ds ≡ filter (λ d. not (is_wanted (record { rows = rows_in order there flags; guards = guards }) d)) ds
+  free_among guards ds within =
+      filter_same_on (λ d. not (is_guarded (record { blobs = there; leases = guards.leases; holds = guards.holds }) d)) (λ d. not (is_wanted (record { rows = rows_in order there flags; guards = guards }) d)) ds
+      (every_has _ ds (λ d has. unguarded_in guards d (within d has)))
+
   -- the digests of rows that aren't guarded are the free ones
   pub rows_free : (guards : Guards) → unguarded (record { blobs = there; leases = guards.leases; holds = guards.holds }) order ≡ free (record { rows = rows_in order there flags; guards = guards })
   rows_free guards =
-      let loose = λ (d : HashAndSize). not (is_wanted (record { rows = rows_in order there flags; guards = guards }) d) in
-      filter_same_on (λ d. not (is_guarded (record { blobs = there; leases = guards.leases; holds = guards.holds }) d)) loose order (every_has _ order (unguarded_in guards))
-      ∙ ap (filter loose) (sym (digests_are order there flags))
+      free_among guards order (λ d has. has)
+      ∙ ap (filter (λ d. not (is_wanted (record { rows = rows_in order there flags; guards = guards }) d))) (sym (digests_are order there flags))
+
+  free_from : (guards : Guards) (from : Option HashAndSize)
+      → filter (λ d. not (is_wanted (record { rows = rows_in order there flags; guards = guards }) d)) (from_on from (digests (rows_in order there flags)))
+      ≡ unguarded (record { blobs = there; leases = guards.leases; holds = guards.holds }) (from_on from order)
+  free_from guards from =
+      ap (λ (ds : List HashAndSize). filter (λ d. not (is_wanted (record { rows = rows_in order there flags; guards = guards }) d)) (from_on from ds)) (digests_are order there flags)
+      ∙ sym (free_among guards (from_on from order) (λ d has. from_on_has from d order has))
+
+  -- a pass goes on at the same place among the rows and among the blobs
+  pub rows_passed : (guards : Guards) (from : Option HashAndSize) → IsPassed (record { blobs = there; leases = guards.leases; holds = guards.holds }) order from
+      → HasPassed (record { rows = rows_in order there flags; guards = guards }) from
+  rows_passed guards from passed = free_from guards from ∙ passed ∙ rows_free guards
+
+  pub blobs_passed : (guards : Guards) (from : Option HashAndSize) → HasPassed (record { rows = rows_in order there flags; guards = guards }) from
+      → IsPassed (record { blobs = there; leases = guards.leases; holds = guards.holds }) order from
+  blobs_passed guards from passed = sym (free_from guards from) ∙ passed ∙ sym (rows_free guards)
 
 -- ---- the first unguarded digest
 

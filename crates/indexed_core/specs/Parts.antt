@@ -1,12 +1,12 @@
 -- The rows and what guards them, as the parts of an index keep them together.
-use Rattle.std.specs.Prelude.{◌||◌, not, map, filter, ℕ, Bool, List}
+use Rattle.std.specs.Prelude.{◌≡◌, ◌||◌, not, map, filter, ℕ, Bool, List, Option}
 use Rattle.digest_types.specs.Name.{HashAndSize}
 use Rattle.store_core.specs.declared.state.Row.{Row}
 use Rattle.store_core.specs.declared.state.Lease.{Lease}
 use Rattle.store_core.specs.State.{State, Holds, digests, sizes, is_held}
 use Rattle.store_core.specs.Reach.{blobs, is_reached}
 use Rattle.lease_table.specs.declared.table_lease.TableLease.{TableLease}
-use Rattle.lease_table.specs.Table.{roots}
+use Rattle.lease_table.specs.Table.{roots, from_on}
 
 -- What guards rows: the leases without their owners, and what each owner holds.
 pub record Guards : Type 0 where
@@ -29,6 +29,10 @@ guarded_bytes p = sizes (filter (λ row. is_wanted p row.digest) p.rows)
 -- the digests of the other rows, in the order of use
 abbrev pub free : Parts → List HashAndSize
 free p = filter (λ d. not (is_wanted p d)) (digests p.rows)
+
+-- a pass that goes on from this digest leaves out no digest that isn't guarded
+abbrev pub HasPassed : Parts → Option HashAndSize → Type 0
+HasPassed p from = filter (λ d. not (is_wanted p d)) (from_on from (digests p.rows)) ≡ free p
 
 -- a lease without its owner
 abbrev pub table_lease : Lease → TableLease

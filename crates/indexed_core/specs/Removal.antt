@@ -1,17 +1,22 @@
 -- Rows that go one after the other, and all at once.
-use Rattle.std.specs.Prelude.{◌≡◌, ◌&&◌, ◌||◌, not, ℕ, Bool, true, false, List, length, take}
+use Rattle.std.specs.Prelude.{◌≡◌, ◌&&◌, ◌||◌, not, ℕ, Bool, true, false, List, Option, filter, length, take}
 use Rattle.std.specs.List.{AllByRecursion}
 use Rattle.digest_types.specs.Name.{HashAndSize}
 use Rattle.store_core.specs.declared.state.Row.{Row}
 use Rattle.store_core.specs.declared.event.Reply.{Reply}
 use Rattle.store_core.specs.declared.event.Reply.TheVariants as replies
-use Rattle.store_core.specs.State.{State, same, is_among, has_row}
-use Rattle.store_core.specs.Pass.{unguarded, without}
-use Rattle.store_core.specs.State.{DistinctDigests}
+use Rattle.store_core.specs.State.{State, DistinctDigests, digests, same, is_among, has_row}
+use Rattle.store_core.specs.Pass.{is_guarded, unguarded, without}
+use Rattle.lease_table.specs.Table.{from_on}
 
 -- the state without the rows of the first unguarded digests
 abbrev pub removed : State → ℕ → State
 removed s count = record s { rows = without (take count (unguarded s)) s.rows }
+
+-- A pass that goes on from this digest, or from the least recent row where none is named, leaves out no row that isn't
+-- guarded: each row before it in the order of use is.
+abbrev pub IsPassed : State → Option HashAndSize → Type 0
+IsPassed s from = filter (λ d. not (is_guarded s d)) (from_on from (digests s.rows)) ≡ unguarded s
 
 -- these are distinct digests of rows
 pub record AreRows (rows : List Row) (ds : List HashAndSize) : Type 0 where

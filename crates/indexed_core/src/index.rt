@@ -11,7 +11,7 @@ ghost use Rattle.lease_table.specs.Holds.{with_holder};
 ghost use Rattle.lease_table.specs.Table.{has_id, roots, other_digests, DistinctDigests};
 ghost use Rattle.indexed_core.specs.Joined.{told, kept_flags};
 ghost use Rattle.digest_types.specs.Name.{HashAndSize};
-ghost use Rattle.indexed_core.specs.Parts.{guarded_bytes, free, is_wanted};
+ghost use Rattle.indexed_core.specs.Parts.{guarded_bytes, free, is_wanted, HasPassed};
 
 use crate::flags::Flags;
 use digest_types::{Digest, Digests};
@@ -232,15 +232,17 @@ impl Index {
         Ok(())
     }
 
-    /// Removes the least recently used row that isn't guarded, if there is one. It takes no memory.
-    pub(crate) fn remove_first(&mut self) -> Option<Digest>
+    /// Removes the least recently used row that isn't guarded, if there is one. A pass goes on at `from`, which is None at
+    /// its start. It takes no memory.
+    pub(crate) fn remove_next(&mut self, from: &mut Option<Digest>) -> Option<Digest>
+        requires { HasPassed self.old from.old }
         ensures first { result ≡ slice_get (free self.old) 0 }
         ensures some { IfSome result (λ d. self.new ≡ record self.old { rows = others d self.old.rows }) }
         ensures none { IfNone result (self.new ≡ self.old) }
+        ensures passed { HasPassed self.new from.new }
     {
-        let digest = self.order.first_unguarded(&self.table)?;
+        let digest = self.order.take_next(&self.table, from)?;
         self.table.on_remove(&digest);
-        self.order.remove(&digest);
         self.flags.remove(&digest);
         self.used -= digest.size;
         Some(digest)

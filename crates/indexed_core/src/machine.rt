@@ -8,7 +8,7 @@ ghost use Rattle.store_core.specs.Pass.{gone, unguarded};
 ghost use Rattle.store_core.specs.Memory.{takes_memory};
 ghost use Rattle.store_core.specs.declared.event.Event.TheVariants as events;
 ghost use Rattle.store_core.specs.declared.event.Reply.TheVariants as replies;
-ghost use Rattle.indexed_core.specs.Removal.{removed, PutsRow};
+ghost use Rattle.indexed_core.specs.Removal.{removed, IsPassed, PutsRow};
 ghost use Rattle.indexed_core.specs.Events.{moves_bodies};
 
 use crate::asking::{is_here, missing, touch_all};
@@ -395,7 +395,7 @@ impl IndexedCore {
 
     // ---- a pass
 
-    /// How many rows a pass to the low mark removes: so many calls of `remove_first` are the pass. It takes no memory.
+    /// How many rows a pass to the low mark removes: so many calls of `remove_next` are the pass. It takes no memory.
     pub fn to_go(&self) -> u64
         ensures pass { passed self.now ≡ (replies.Passed result (used (removed self.now result)), removed self.now result) }
         ensures within { result ≤ length (unguarded self.now) }
@@ -404,16 +404,20 @@ impl IndexedCore {
         self.index.victims(self.marks.low)
     }
 
-    /// Removes the least recently used row that isn't guarded, if there is one. It takes no memory.
-    pub fn remove_first(&mut self) -> Option<Digest>
+    /// Removes the least recently used row that isn't guarded, if there is one. A pass goes on at `from`, which is None at
+    /// its start and moves on to the row behind the one that goes, so that it walks once over what it passes. It takes no
+    /// memory.
+    pub fn remove_next(&mut self, from: &mut Option<Digest>) -> Option<Digest>
+        requires { IsPassed self.old from.old }
         ensures first { result ≡ slice_get (unguarded self.old) 0 }
         ensures row { IfSome result (λ d. has_row self.old.rows d ≡ true) }
         ensures some { IfSome result (λ d. self.new ≡ record self.old { rows = others d self.old.rows }) }
         ensures none { IfNone result (self.new ≡ self.old) }
         // It goes on from the first ones of a state to the next one.
         ensures next { (s : State) (count : ℕ) → Distinct s.rows → self.old ≡ removed s count → count < length (unguarded s) → (result ≡ slice_get (unguarded s) count) × (self.new ≡ removed s (count + 1)) }
+        ensures passed { IsPassed self.new from.new }
     {
-        self.index.remove_first()
+        self.index.remove_next(from)
     }
 
     /// How many bytes are used. It takes no memory.
