@@ -1,7 +1,7 @@
 //! `Store`.
 
 ghost use Rattle.std.specs.Prelude.{◌≡◌, ◌<◌, ◌+◌, ◌-◌, ◌^◌, ◌&&◌, ℕ, [], length, false, true, is_some, unwrap_or, Some, None, IfOk, IfErr, IfSome, OnErr, IsOk, if◌then◌else◌};
-ghost use Rattle.store_core.specs.State.{State, Distinct, new_state, has_row, same};
+ghost use Rattle.store_core.specs.State.{State, Distinct, new_state, digests, has_row, same};
 ghost use Rattle.store_core.specs.Pass.{unguarded};
 ghost use Rattle.store_core.specs.Step.{step, is_here, is_open, usage};
 ghost use Rattle.store_core.specs.declared.event.Event.TheVariants as events;
@@ -10,7 +10,7 @@ ghost use Rattle.digest_types.specs.Name.{HashAndSize};
 ghost use Rattle.digest_types.specs.Digest.{digest_of};
 ghost use Rattle.indexed_core.specs.Events.{moves_bodies};
 ghost use Rattle.store_core.specs.Memory.{takes_memory};
-ghost use Rattle.indexed_core.specs.Removal.{removed, adds_row};
+ghost use Rattle.indexed_core.specs.Removal.{removed, IsPassed, adds_row};
 ghost use Rattle.blob_store.specs.Applied.{HasBody, gives_up, put_gives_up, passed_gives_up, gives_up_beside};
 ghost use Rattle.blob_store.specs.Calls.{Begins};
 ghost use Rattle.blob_store.specs.Kept.{told_in, keeps_body, KeepsBodies, PutsBody, MovesBody};
@@ -22,7 +22,7 @@ use crate::bodies::Bodies;
 use crate::checked::Checked;
 use crate::reading::Reading;
 use crate::shelf::{Shelf, ShelfEnd};
-use digest_types::Digest;
+use digest_types::{Digest, Digests};
 use indexed_core::IndexedCore;
 use proto_wire::OutOfMemory;
 use std::alloc::Global;
@@ -90,6 +90,13 @@ impl<K: Shelf> Store<K> {
         ensures { result ≡ self.now.state.next_lease }
     {
         self.core.next_lease()
+    }
+
+    /// The digests of the rows in the order of their use, the least recent first.
+    pub fn use_list(&self) -> Result<Digests, OutOfMemory>
+        ensures { IfOk result (λ ds. ds ≡ digests self.now.state.rows) }
+    {
+        self.core.use_list()
     }
 
     /// One event of an owner, with the body of a put, and the reply. A body that isn't kept, and those of rows that go, are
@@ -175,8 +182,9 @@ impl<K: Shelf> Store<K> {
             return Reply::Refused;
         }
         let removed = self.core.to_go();
+        let mut from = None;
         'rows: for _ in 0..removed {
-            self.remove_first(shelf);
+            self.remove_next(shelf, &mut from);
         }
         Reply::Passed {
             removed,
@@ -184,15 +192,18 @@ impl<K: Shelf> Store<K> {
         }
     }
 
-    // Removes the least recently used row that isn't guarded, and gives up its body. It takes no memory.
-    fn remove_first(&mut self, shelf: &mut K)
-        requires { (s : State) × (count : ℕ) × Distinct s.rows × (self.old.state ≡ removed s count) × (count < length (unguarded s)) }
+    // Removes the least recently used row that isn't guarded, and gives up its body. A pass goes on at `from`, so that it
+    // walks once over what it passes. It takes no memory.
+    fn remove_next(&mut self, shelf: &mut K, from: &mut Option<Digest>)
+        requires passed { IsPassed self.old.state from.old }
+        requires there { (s : State) × (count : ℕ) × Distinct s.rows × (self.old.state ≡ removed s count) × (count < length (unguarded s)) }
         ensures next { (s : State) (count : ℕ) → Distinct s.rows → self.old.state ≡ removed s count → count < length (unguarded s) → self.new.state ≡ removed s (count + 1) }
         ensures fewer { (d : HashAndSize) → has_row self.new.state.rows d ≡ true → has_row self.old.state.rows d ≡ true }
         ensures bodies { KeepsBodies self.old self.new }
         ensures shelf { K.shelved shelf.new ≡ discarding 1 (K.shelved shelf.old) }
+        ensures passed { IsPassed self.new.state from.new }
     {
-        match self.core.remove_first() {
+        match self.core.remove_next(from) {
             Some(digest) => self.bodies.give_up(shelf, &digest),
             None => unreachable!(),
         }

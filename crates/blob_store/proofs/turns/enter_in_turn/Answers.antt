@@ -1,7 +1,6 @@
-use Rattle.std.proofs.Common.{rules, ◌≡◌, ◌-◌, ◌^◌, ◌<◌, ℕ, Some, sym, ap, ◌∙◌, subst}
+use Rattle.std.proofs.Common.{◌≡◌, ◌-◌, ◌^◌, ◌<◌, sym, ap, ◌∙◌, subst}
 use Rattle.store_core.specs.State.{State}
 use Rattle.store_core.specs.declared.event.Event.TheVariants as events
-use Rattle.store_core.specs.declared.event.Reply.{Reply}
 use Rattle.store_core.specs.Step.{step}
 use Rattle.turn_lock.specs.Views.{state_of}
 use Rattle.blob_store.specs.Kept.{Stocked}

@@ -17,11 +17,12 @@ rows-init g c =
     record {
       core = removed_none _;
       bodies = subst (λ (x : Stocked). KeepsBodies x x) c.self.view_is (all_keep s s c.self.invariant refl);
+      passed = refl;
       shelf = refl;
     }
 
-pub remove_first-requires : goal.remove_first-requires
-remove_first-requires g c =
+pub remove_next-requires-clause-there : goal.remove_next-requires-clause-there
+remove_next-requires-clause-there g c =
     let distinct = subst (λ (s : State). Distinct s.rows) (c.deref-2.ensures ∙ ap (λ (x : Stocked). x.state) c.self.view_is) c.to_go-removed.ensures.distinct in
     let within = subst (λ (s : State). c.to_go-removed.result ≤ length (unguarded s)) (c.deref-2.ensures ∙ ap (λ (x : Stocked). x.state) c.self.view_is) c.to_go-removed.ensures.within in
     (c.args.self.now.state, c.rows.counter, distinct, c.rows.invariant.core, omega (arith, within, c.rows-test.true))
@@ -31,9 +32,10 @@ rows-preserved g c =
     let distinct = subst (λ (s : State). Distinct s.rows) (c.deref-2.ensures ∙ ap (λ (x : Stocked). x.state) c.self.view_is) c.to_go-removed.ensures.distinct in
     let within = subst (λ (s : State). c.to_go-removed.result ≤ length (unguarded s)) (c.deref-2.ensures ∙ ap (λ (x : Stocked). x.state) c.self.view_is) c.to_go-removed.ensures.within in
     record {
-      core = c.remove_first.ensures.next c.args.self.now.state c.rows.counter distinct c.rows.invariant.core (omega (arith, within, c.rows-test.true));
-      bodies = keep_on c.args.self.now c.rows.self c.remove_first.new.self c.remove_first.ensures.fewer c.rows.invariant.bodies c.remove_first.ensures.bodies;
-      shelf = one_more c.rows.counter (g.K.Shelf.shelved c.rows.shelf) (g.K.Shelf.shelved c.remove_first.new.shelf) (g.K.Shelf.shelved c.args.shelf.now) c.remove_first.ensures.shelf c.rows.invariant.shelf;
+      core = c.remove_next.ensures.next c.args.self.now.state c.rows.counter distinct c.rows.invariant.core (omega (arith, within, c.rows-test.true));
+      bodies = keep_on c.args.self.now c.rows.self c.remove_next.new.self c.remove_next.ensures.fewer c.rows.invariant.bodies c.remove_next.ensures.bodies;
+      passed = c.remove_next.ensures.passed;
+      shelf = one_more c.rows.counter (g.K.Shelf.shelved c.rows.shelf) (g.K.Shelf.shelved c.remove_next.new.shelf) (g.K.Shelf.shelved c.args.shelf.now) c.remove_next.ensures.shelf c.rows.invariant.shelf;
     }
 
 pub returns-clause-step : goal.returns-clause-step
