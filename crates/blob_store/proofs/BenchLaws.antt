@@ -11,7 +11,7 @@ use Rattle.store_core.specs.Step.{step, served}
 use Rattle.store_core.specs.History.{Entry, state, Legal}
 use Rattle.blob_store.specs.declared.seat.Seat.{Seat}
 use Rattle.turn_lock.specs.Views.{Extends}
-use Rattle.blob_store.specs.View.{Aside, IsSound, Turns, Makes, Waits, Enters, StaysOut, Leaves}
+use Rattle.blob_store.specs.View.{Identity, IsSound, Turns, Makes, Waits, Enters, StaysOut, Leaves}
 use Rattle.blob_store.specs.Benched.{Benched, IsAtStep, store_of, seat_of, view_of, unseated, seated, unseated_now}
 use Rattle.blob_store.proofs.ViewLaws.{last_step}
 
@@ -39,25 +39,25 @@ one_added old more before new entry grown ends n =
 -- ---- the seats
 
 -- what stands beside the chosen seat tells how many seats there are
-pub as_many : (old new : Benched) → (view_of new).aside ≡ (view_of old).aside → length new.seats ≡ length old.seats
-as_many old new aside =
-    sym (length-set new.seats new.chosen unseated) ∙ ap (λ (a : Aside). length a.seats) aside ∙ length-set old.seats old.chosen unseated
+pub as_many : (old new : Benched) → (view_of new).identity ≡ (view_of old).identity → length new.seats ≡ length old.seats
+as_many old new identity =
+    sym (length-set new.seats new.chosen unseated) ∙ ap (λ (a : Identity). length a.seats) identity ∙ length-set old.seats old.chosen unseated
 
 -- so do the calls at the chosen seat
 pub turns_as_many : (old new : Benched) (turns : ℕ) (made : List (Event × Reply)) → Turns (view_of old) (view_of new) turns made → length new.seats ≡ length old.seats
-turns_as_many old new n made turns = as_many old new turns.aside
+turns_as_many old new n made turns = as_many old new turns.identity
 
 pub makes_as_many : (old new : Benched) (event : Event) (reply : Reply) → Makes (view_of old) (view_of new) event reply → length new.seats ≡ length old.seats
-makes_as_many old new event reply makes = as_many old new makes.turns.aside
+makes_as_many old new event reply makes = as_many old new makes.turns.identity
 
 pub enters_as_many : (old new : Benched) → Enters (view_of old) (view_of new) → length new.seats ≡ length old.seats
-enters_as_many old new enters = as_many old new enters.aside
+enters_as_many old new enters = as_many old new enters.identity
 
 pub stays_as_many : (old new : Benched) → StaysOut (view_of old) (view_of new) → length new.seats ≡ length old.seats
-stays_as_many old new stays = as_many old new stays.aside
+stays_as_many old new stays = as_many old new stays.identity
 
 pub leaves_as_many : (old new : Benched) → Leaves (view_of old) (view_of new) → length new.seats ≡ length old.seats
-leaves_as_many old new leaves = as_many old new leaves.aside
+leaves_as_many old new leaves = as_many old new leaves.identity
 
 -- the seats are those beside the chosen one and that
 seats_by : (xs ys : List Seat) (i : ℕ) (seat : Seat) → slice_set xs i unseated ≡ slice_set ys i unseated → slice_index_or xs i unseated ≡ seat → xs ≡ slice_set ys i seat
@@ -72,18 +72,18 @@ pub seat_is : (a b : Seat) → a.owner ≡ b.owner → a.entered ≡ b.entered �
 seat_is a b owner entered = ap (λ (o : Option ℕ). record { owner = o; entered = a.entered }) owner ∙ ap (λ (e : Bool). record { owner = b.owner; entered = e }) entered
 
 -- what stays beside, and the chosen seat, give all seats
-seats_of : (old new : Benched) (seat : Seat) → (view_of new).aside ≡ (view_of old).aside → seat_of new ≡ seat → new.seats ≡ slice_set old.seats old.chosen seat
-seats_of old new seat aside is =
-    let place : new.chosen ≡ old.chosen = ap (λ (a : Aside). a.place) aside in
-    let beside : slice_set new.seats new.chosen unseated ≡ slice_set old.seats old.chosen unseated = ap (λ (a : Aside). a.seats) aside in
+seats_of : (old new : Benched) (seat : Seat) → (view_of new).identity ≡ (view_of old).identity → seat_of new ≡ seat → new.seats ≡ slice_set old.seats old.chosen seat
+seats_of old new seat identity is =
+    let place : new.chosen ≡ old.chosen = ap (λ (a : Identity). a.place) identity in
+    let beside : slice_set new.seats new.chosen unseated ≡ slice_set old.seats old.chosen unseated = ap (λ (a : Identity). a.seats) identity in
     seats_by new.seats old.seats old.chosen seat
     (subst (λ (i : ℕ). slice_set new.seats i unseated ≡ slice_set old.seats old.chosen unseated) place beside)
     (subst (λ (i : ℕ). slice_index_or new.seats i unseated ≡ seat) place is)
 
 -- the seats stay where the chosen one does
-pub seats_stay : (old new : Benched) → (view_of new).aside ≡ (view_of old).aside → (seat_of new).owner ≡ (seat_of old).owner → (seat_of new).entered ≡ (seat_of old).entered → new.seats ≡ old.seats
-seats_stay old new aside owner entered =
-    seats_of old new (seat_of old) aside (seat_is (seat_of new) (seat_of old) owner entered) ∙ set-get_or old.seats old.chosen unseated
+pub seats_stay : (old new : Benched) → (view_of new).identity ≡ (view_of old).identity → (seat_of new).owner ≡ (seat_of old).owner → (seat_of new).entered ≡ (seat_of old).entered → new.seats ≡ old.seats
+seats_stay old new identity owner entered =
+    seats_of old new (seat_of old) identity (seat_is (seat_of new) (seat_of old) owner entered) ∙ set-get_or old.seats old.chosen unseated
 
 bench_is : (old new : Benched) → new.start ≡ old.start → new.seen ≡ old.seen → new.seats ≡ old.seats → new.chosen ≡ old.chosen → new ≡ old
 bench_is old new start seen seats chosen =
@@ -100,8 +100,8 @@ pair_is reply s r first second = ap (λ (x : Reply). (x, s)) first ∙ ap (λ (t
 -- an entry that ends what is seen, and is all that was added, is the step from the store before to the store after it
 at_step : (old new : Benched) (owner : ℕ) (event : Event) (reply : Reply) → IsSound (view_of new) → new.start ≡ old.start → Extends old.seen new.seen
     → (before : List Entry) → new.seen ≡ before ++ record { owner = owner; event = event; reply = reply } ∷ []
-    → length new.seen ≡ length old.seen + 1 → (view_of new).aside ≡ (view_of old).aside → IsAtStep old new owner event reply
-at_step old new owner event reply sound start grown before ends n aside =
+    → length new.seen ≡ length old.seen + 1 → (view_of new).identity ≡ (view_of old).identity → IsAtStep old new owner event reply
+at_step old new owner event reply sound start grown before ends n identity =
     let entry : Entry = record { owner = owner; event = event; reply = reply } in
     let seen : new.seen ≡ old.seen ++ entry ∷ [] = one_added old.seen grown.0 before new.seen entry grown.1 ends n in
     let last = last_step new.start old.seen entry (subst (λ (xs : List Entry). Legal new.start xs) seen sound.legal) in
@@ -110,7 +110,7 @@ at_step old new owner event reply sound start grown before ends n aside =
       start = start;
       seen = seen;
       step = pair_is reply (store_of new) (step (state new.start old.seen) owner event) last.0 (ap (λ (xs : List Entry). state new.start xs) seen ∙ last.1) ∙ ap (λ (s : State). step s owner event) from;
-      chosen = ap (λ (a : Aside). a.place) aside;
+      chosen = ap (λ (a : Identity). a.place) identity;
     }
 
 -- ---- the calls
@@ -123,16 +123,16 @@ makes_at old new owner event reply sound makes is_owner =
     let same : turns.owner ≡ owner = cc in (
       at_step old new owner event reply sound turns.start turns.seen makes.last.0
           (subst (λ (o : ℕ). new.seen ≡ makes.last.0 ++ record { owner = o; event = event; reply = reply } ∷ []) same makes.last.1)
-          turns.count turns.aside,
-      seats_stay old new turns.aside turns.same_owner (turns.is_in ∙ sym turns.was_in),
+          turns.count turns.identity,
+      seats_stay old new turns.identity turns.same_owner (turns.is_in ∙ sym turns.was_in),
     )
 
 pub waits_at : (old new : Benched) → Waits (view_of old) (view_of new) → new ≡ old
 waits_at old new turns =
     bench_is old new turns.start
     (none_more old.seen turns.seen.0 new.seen turns.seen.1 (omega (arith, turns.count)))
-    (seats_stay old new turns.aside turns.same_owner (turns.is_in ∙ sym turns.was_in))
-    (ap (λ (a : Aside). a.place) turns.aside)
+    (seats_stay old new turns.identity turns.same_owner (turns.is_in ∙ sym turns.was_in))
+    (ap (λ (a : Identity). a.place) turns.identity)
 
 -- the owner that an Open lets in is the next
 opens_next : (s t : State) (owner : ℕ) → (replies.Opened owner, t) ≡ step s owner events.Open → owner ≡ s.next_owner
@@ -144,18 +144,18 @@ pub enters_at : (old new : Benched) → IsSound (view_of new) → Enters (view_o
 enters_at old new sound enters =
     let number = enters.number in
     let at = at_step old new number events.Open (replies.Opened number) sound enters.start enters.seen enters.last.0
-    (enters.last.1 ∙ ap (λ (mine : List Entry). enters.last.0 ++ mine) enters.mine) enters.count enters.aside in
+    (enters.last.1 ∙ ap (λ (mine : List Entry). enters.last.0 ++ mine) enters.mine) enters.count enters.identity in
     let next : number ≡ (store_of old).next_owner = opens_next (store_of old) (store_of new) number at.step in (
       subst (λ (o : ℕ). IsAtStep old new o events.Open (replies.Opened o)) next at,
-      seats_of old new (seated (store_of old).next_owner) enters.aside (seat_is (seat_of new) (seated (store_of old).next_owner) (enters.owner ∙ ap (λ (o : ℕ). Some o) next) enters.is_in),
+      seats_of old new (seated (store_of old).next_owner) enters.identity (seat_is (seat_of new) (seated (store_of old).next_owner) (enters.owner ∙ ap (λ (o : ℕ). Some o) next) enters.is_in),
     )
 
 pub stays_out_at : (old new : Benched) → (seat_of old).entered ≡ false → StaysOut (view_of old) (view_of new) → new ≡ old
 stays_out_at old new out stays =
     bench_is old new stays.start
     (none_more old.seen stays.seen.0 new.seen stays.seen.1 stays.count)
-    (seats_stay old new stays.aside stays.owner (stays.is_out ∙ sym out))
-    (ap (λ (a : Aside). a.place) stays.aside)
+    (seats_stay old new stays.identity stays.owner (stays.is_out ∙ sym out))
+    (ap (λ (a : Identity). a.place) stays.identity)
 
 pub leaves_at : (old new : Benched) (owner : ℕ) → IsSound (view_of new) → Leaves (view_of old) (view_of new) → (seat_of old).owner ≡ Some owner
     → IsAtStep old new owner events.Close replies.Closed × (new.seats ≡ slice_set old.seats old.chosen (unseated_now owner))
@@ -164,6 +164,6 @@ leaves_at old new owner sound leaves is_owner =
     let same : leaves.owner ≡ owner = cc in (
       at_step old new owner events.Close replies.Closed sound leaves.start leaves.seen leaves.last.0
           (subst (λ (o : ℕ). new.seen ≡ leaves.last.0 ++ record { owner = o; event = events.Close; reply = replies.Closed } ∷ []) same leaves.last.1)
-          leaves.count leaves.aside,
-      seats_of old new (unseated_now owner) leaves.aside (seat_is (seat_of new) (unseated_now owner) (leaves.same_owner ∙ is_owner) leaves.is_out),
+          leaves.count leaves.identity,
+      seats_of old new (unseated_now owner) leaves.identity (seat_is (seat_of new) (unseated_now owner) (leaves.same_owner ∙ is_owner) leaves.is_out),
     )

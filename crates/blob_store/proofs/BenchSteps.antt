@@ -425,7 +425,7 @@ entered_makes s s' b owner event reply more entered is_owner =
         mine = own_by_push (seat_of b).owner owner b.seen event reply is_owner;
         count = omega (arith, more.count);
         grant = refl;
-        aside = refl;
+        identity = refl;
         left = omega (arith, more.count);
         used = omega (arith, more.count);
       };
@@ -480,7 +480,7 @@ bench_stays_out s b bench out = record {
   seen = ([], sym (append-nil b.seen));
   count = refl;
   grant = refl;
-  aside = refl;
+  identity = refl;
   left = omega arith;
   used = omega arith;
 }
@@ -561,7 +561,7 @@ owner_enters s s' b b' reply bench room e is =
         last = (b.seen, ap (λ (xs : List Entry). b.seen ++ xs) (sym (mine ∙ own_is)));
         count = more.count;
         grant = refl;
-        aside = ap (λ (xs : List Seat). record { lock = None; place = b.chosen; seats = xs }) (set-set b.seats b.chosen (seated n) unseated);
+        identity = ap (λ (xs : List Seat). record { lock = None; place = b.chosen; seats = xs }) (set-set b.seats b.chosen (seated n) unseated);
         left = omega (arith, more.count);
         used = omega (arith, more.count);
       },
@@ -675,7 +675,7 @@ owner_leaves s s' b b' owner bench entered is_owner room e is =
         last = (b.seen, refl);
         count = more.count;
         grant = refl;
-        aside = ap (λ (xs : List Seat). record { lock = None; place = b.chosen; seats = xs }) (set-set b.seats b.chosen (unseated_now owner) unseated);
+        identity = ap (λ (xs : List Seat). record { lock = None; place = b.chosen; seats = xs }) (set-set b.seats b.chosen (unseated_now owner) unseated);
         left = omega (arith, more.count);
         used = omega (arith, more.count);
       },

@@ -194,7 +194,7 @@ turn_adds old taken new ticket event reply door takes gives closed stays =
           mine = mine;
           count = gives.made ∙ ap (λ (n : ℕ). n + 1) takes.made;
           grant = gives.ends.grant ∙ takes.grant;
-          aside = ap (λ (t : TableId). record { lock = Some t; place = 0; seats = [] }) (gives.ends.lock ∙ takes.lock);
+          identity = ap (λ (t : TableId). record { lock = Some t; place = 0; seats = [] }) (gives.ends.lock ∙ takes.lock);
           left = omega (arith, gives.ends.left, takes.left);
           used = omega (arith, gives.ends.left, takes.left);
         };
@@ -303,7 +303,7 @@ turn_waits old taken new ticket door takes back =
         mine = mine ∙ sym (append-nil old.view.mine);
         count = omega (arith, back.made, takes.made);
         grant = back.ends.grant ∙ takes.grant;
-        aside = ap (λ (t : TableId). record { lock = Some t; place = 0; seats = [] }) (back.ends.lock ∙ takes.lock);
+        identity = ap (λ (t : TableId). record { lock = Some t; place = 0; seats = [] }) (back.ends.lock ∙ takes.lock);
         left = omega (arith, back.ends.left, takes.left);
         used = omega (arith, back.ends.left, takes.left);
       },
@@ -375,7 +375,7 @@ turn_enters old taken new ticket owner reply stood was takes e gives =
         last = (taken.view.seen, gives.seen ∙ ap (λ (l : List Entry). taken.view.seen ++ l) (sym gives.mine));
         count = gives.made ∙ ap (λ (n : ℕ). n + 1) takes.made;
         grant = gives.ends.grant ∙ takes.grant;
-        aside = ap (λ (t : TableId). record { lock = Some t; place = 0; seats = [] }) (gives.ends.lock ∙ takes.lock);
+        identity = ap (λ (t : TableId). record { lock = Some t; place = 0; seats = [] }) (gives.ends.lock ∙ takes.lock);
         left = omega (arith, gives.ends.left, takes.left);
         used = omega (arith, gives.ends.left, takes.left);
       };
@@ -401,7 +401,7 @@ turn_stays_out old taken new ticket door takes back =
         seen = subst (λ (l : List Entry). (more : List Entry) × (l ≡ old.view.seen ++ more)) (sym back.seen) takes.seen;
         count = omega (arith, back.made, takes.made);
         grant = back.ends.grant ∙ takes.grant;
-        aside = ap (λ (t : TableId). record { lock = Some t; place = 0; seats = [] }) (back.ends.lock ∙ takes.lock);
+        identity = ap (λ (t : TableId). record { lock = Some t; place = 0; seats = [] }) (back.ends.lock ∙ takes.lock);
         left = omega (arith, back.ends.left, takes.left);
         used = omega (arith, back.ends.left, takes.left);
       },
@@ -477,7 +477,7 @@ turn_leaves old taken new ticket owner reply stood was takes is none e gives =
         last = (taken.view.seen, gives.seen ∙ ap (λ (l : List Entry). taken.view.seen ++ l) added);
         count = gives.made ∙ ap (λ (n : ℕ). n + 1) takes.made;
         grant = gives.ends.grant ∙ takes.grant;
-        aside = ap (λ (t : TableId). record { lock = Some t; place = 0; seats = [] }) (gives.ends.lock ∙ takes.lock);
+        identity = ap (λ (t : TableId). record { lock = Some t; place = 0; seats = [] }) (gives.ends.lock ∙ takes.lock);
         left = omega (arith, gives.ends.left, takes.left);
         used = omega (arith, gives.ends.left, takes.left);
       };

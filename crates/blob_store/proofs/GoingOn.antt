@@ -14,7 +14,7 @@ pub entered_goes_on : (a b : View) → Enters a b → GoesOn a b 1
 entered_goes_on a b enters = record {
   is_in = enters.is_in;
   none = λ i. leases_by (enters.owner i) (enters.mine i);
-  aside = enters.aside;
+  identity = enters.identity;
   grant = enters.grant;
   left = enters.used;
 }
@@ -23,7 +23,7 @@ pub put_goes_on : (a b : View) (d : HashAndSize) (edges : Option (List Edge)) (r
 put_goes_on a b d edges reply none makes = record {
   is_in = makes.turns.is_in;
   none = own_now_after a b 1 ((events.Put d edges, reply) ∷ []) makes.turns ∙ none;
-  aside = makes.turns.aside;
+  identity = makes.turns.identity;
   grant = makes.turns.grant;
   left = makes.turns.used;
 }
@@ -32,7 +32,7 @@ pub find_goes_on : (a b : View) (ds : List HashAndSize) (reply : Reply) → own_
 find_goes_on a b ds reply none makes = record {
   is_in = makes.turns.is_in;
   none = own_now_after a b 1 ((events.Find ds, reply) ∷ []) makes.turns ∙ none;
-  aside = makes.turns.aside;
+  identity = makes.turns.identity;
   grant = makes.turns.grant;
   left = makes.turns.used;
 }
@@ -41,7 +41,7 @@ pub goes_further : (a b c : View) (m n : ℕ) → GoesOn a b m → GoesOn b c n 
 goes_further a b c m n first rest = record {
   is_in = rest.is_in;
   none = rest.none;
-  aside = rest.aside ∙ first.aside;
+  identity = rest.identity ∙ first.identity;
   grant = rest.grant ∙ first.grant;
   left = omega (arith, first.left, rest.left);
 }

@@ -55,7 +55,7 @@ turns_joined a b c m n xs ys first second =
       mine = both_made first.owner a.mine b.mine c.mine xs ys first.mine (subst (λ (o : ℕ). c.mine ≡ b.mine ++ by o ys) same second.mine);
       count = omega (arith, first.count, second.count, length-append xs ys);
       grant = second.grant ∙ first.grant;
-      aside = second.aside ∙ first.aside;
+      identity = second.identity ∙ first.identity;
       left = omega (arith, first.left, second.left);
       used = omega (arith, first.used, second.used);
     }
@@ -74,7 +74,7 @@ turns_more a b m n xs few turns = record {
   mine = turns.mine;
   count = turns.count;
   grant = turns.grant;
-  aside = turns.aside;
+  identity = turns.identity;
   left = turns.left;
   used = omega (arith, turns.used);
 }
@@ -93,7 +93,7 @@ turns_none v owner is_in is_owner is_own = record {
   mine = sym (append-nil v.mine);
   count = omega arith;
   grant = refl;
-  aside = refl;
+  identity = refl;
   left = omega arith;
   used = omega arith;
 }

@@ -56,7 +56,7 @@ view_of b = record {
   made = length b.seen;
   left = 2 ^ 63 - length b.seen;
   grant = 2 ^ 63;
-  aside = record { lock = None; place = b.chosen; seats = slice_set b.seats b.chosen unseated };
+  identity = record { lock = None; place = b.chosen; seats = slice_set b.seats b.chosen unseated };
 }
 
 -- One more entry was made, which is the step from the store before it to the store after it. The same seat is chosen.

@@ -39,7 +39,7 @@ door_view h entered = record {
   made = h.view.made;
   left = h.view.left;
   grant = h.view.grant;
-  aside = record { lock = Some h.lock; place = 0; seats = [] };
+  identity = record { lock = Some h.lock; place = 0; seats = [] };
 }
 
 -- The history began at a valid state with small numbers. The seat's owner came since, and where it is in the store its own
@@ -72,6 +72,6 @@ pub record IsGated (at : TableId) (h : AtLock) (entered : Bool) (rings : ℕ) : 
 pub record GoesOn (old new : View) (turns : ℕ) : Type 0 where
   pub is_in : new.entered ≡ true
   pub none : own_now new ≡ []
-  pub aside : new.aside ≡ old.aside
+  pub identity : new.identity ≡ old.identity
   pub grant : new.grant ≡ old.grant
   pub left : old.left ≤ new.left + turns

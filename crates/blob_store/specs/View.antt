@@ -12,16 +12,18 @@ use Rattle.store_core.specs.declared.event.Reply.TheVariants as replies
 use Rattle.turn_lock.specs.Views.{Extends}
 use Rattle.blob_store.specs.declared.seat.Seat.{Seat}
 
--- Which lock a door's seat is at, if it is at one, and what a door of several seats keeps beside the one whose door it is:
--- the place of that one, and the seats, where at its own place there stands one without an owner.
-pub record Aside : Type 0 where
+-- What a door keeps of itself from call to call: the lock at which it stands, if it stands at one; and where it is one of
+-- several seats in a row, its place and the seats, of which the one at its own place has no owner here. Each door fills
+-- this, and each call keeps it: a caller that knows nothing else of the door knows after a call that it is at the same
+-- lock and has the same seat.
+pub record Identity : Type 0 where
   pub lock : Option TableId
   pub place : ℕ
   pub seats : List Seat
 
 -- The state at which the history begins; the seat's owner, if it has had one, and whether that is in the store now; the
 -- history that was seen; the owner's own entries; how many entries the seat has made; how many turns it may still take, and
--- how many it was given; and what the door keeps of other seats.
+-- how many it was given; and the door's identity, which no call changes.
 pub record View : Type 0 where
   pub start : State
   pub owner : Option ℕ
@@ -31,7 +33,7 @@ pub record View : Type 0 where
   pub made : ℕ
   pub left : ℕ
   pub grant : ℕ
-  pub aside : Aside
+  pub identity : Identity
 
 -- the state of the store after all that was seen
 abbrev pub state_of : View → State
@@ -71,7 +73,7 @@ pub record Turns (old new : View) (turns : ℕ) (made : List (Event × Reply)) :
   pub mine : new.mine ≡ old.mine ++ by owner made
   pub count : new.made ≡ old.made + length made
   pub grant : new.grant ≡ old.grant
-  pub aside : new.aside ≡ old.aside
+  pub identity : new.identity ≡ old.identity
   pub left : new.left ≤ old.left
   pub used : old.left ≤ new.left + turns
 
@@ -97,7 +99,7 @@ pub record Enters (old new : View) : Type 0 where
   pub last : (before : List Entry) × (new.seen ≡ before ++ new.mine)
   pub count : new.made ≡ old.made + 1
   pub grant : new.grant ≡ old.grant
-  pub aside : new.aside ≡ old.aside
+  pub identity : new.identity ≡ old.identity
   pub left : new.left ≤ old.left
   pub used : old.left ≤ new.left + 1
 
@@ -111,7 +113,7 @@ pub record StaysOut (old new : View) : Type 0 where
   pub seen : Extends old.seen new.seen
   pub count : new.made ≡ old.made
   pub grant : new.grant ≡ old.grant
-  pub aside : new.aside ≡ old.aside
+  pub identity : new.identity ≡ old.identity
   pub left : new.left ≤ old.left
   pub used : old.left ≤ new.left + 1
 
@@ -128,7 +130,7 @@ pub record Leaves (old new : View) : Type 0 where
   pub last : (before : List Entry) × (new.seen ≡ before ++ record { owner = owner; event = events.Close; reply = replies.Closed } ∷ [])
   pub count : new.made ≡ old.made + 1
   pub grant : new.grant ≡ old.grant
-  pub aside : new.aside ≡ old.aside
+  pub identity : new.identity ≡ old.identity
   pub left : new.left ≤ old.left
   pub used : old.left ≤ new.left + 1
 

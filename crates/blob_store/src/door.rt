@@ -33,8 +33,12 @@ pub struct Passed {
 
 /// A seat at the store: each call is one turn and one entry of its owner, whose reply is the answer. Only a call that is
 /// refused makes no entry, and leaves the store as it was.
+///
+/// The view of every door has an identity: the lock at which the door stands, or the place of its seat on a bench and the
+/// other seats there. Every call keeps it, so that a caller that is generic over doors knows after a call that the door is
+/// at the same lock and has the same seat.
 pub trait Door<K: Shelf> {
-    // what it has seen and may still do
+    // what it has seen and may still do, and its identity, which every implementer fills and every call keeps
     ghost view: { Self → View };
 
     /// How many turns it may still take. It takes no memory and makes no entry.

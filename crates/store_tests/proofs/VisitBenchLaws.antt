@@ -20,18 +20,18 @@ use Rattle.blob_store.proofs.BenchLaws.{as_many}
 pub puts_as_many : {E : Type 0} (r : Result Bool E) (old new : Benched) (blob : Sealed)
     → IfOk r (λ all. (missing : List HashAndSize) × PutsAndFinds (view_of old) (view_of new) blob missing × (IsTrue all ↔ (missing ≡ [])))
     → OnErr r (PutsAtMost (view_of old) (view_of new) blob) → length new.seats ≡ length old.seats
-puts_as_many (Ok all) old new blob ok err = as_many old new ok.1.1.aside
-puts_as_many (Err e) old new blob ok (inl turns) = as_many old new turns.aside
-puts_as_many (Err e) old new blob ok (inr made) = as_many old new made.1.aside
+puts_as_many (Ok all) old new blob ok err = as_many old new ok.1.1.identity
+puts_as_many (Err e) old new blob ok (inl turns) = as_many old new turns.identity
+puts_as_many (Err e) old new blob ok (inr made) = as_many old new made.1.identity
 
 -- so does a read under a lease
 pub visits_as_many : {E : Type 0} (r : Result Bool E) (old new : Benched) (root : HashAndSize)
     → IfOk r (λ found. (id : ℕ) × Visits (view_of old) (view_of new) 5 (read_under root id found))
     → OnErr r (StaysOut (view_of old) (view_of new) ⊎ ((made : List (Event × Reply)) × IsHeldAtMost root made × Visits (view_of old) (view_of new) 5 made))
     → length new.seats ≡ length old.seats
-visits_as_many (Ok found) old new root ok err = as_many old new ok.1.aside
-visits_as_many (Err e) old new root ok (inl stays) = as_many old new stays.aside
-visits_as_many (Err e) old new root ok (inr made) = as_many old new made.2.aside
+visits_as_many (Ok found) old new root ok err = as_many old new ok.1.identity
+visits_as_many (Err e) old new root ok (inl stays) = as_many old new stays.identity
+visits_as_many (Err e) old new root ok (inr made) = as_many old new made.2.identity
 
 -- a lease that was taken is held
 pub held_now : (a b : View) (root : HashAndSize) (id : ℕ) → own_now a ≡ [] → Makes a b (events.Lease root kinds.Dir) (replies.Leased id) → holds b id ≡ true

@@ -114,7 +114,7 @@ visits a b c d n made enters turns none leaves =
           ∙ none;
       count = omega (arith, enters.count, turns.count, leaves.count);
       grant = leaves.grant ∙ turns.grant ∙ enters.grant;
-      aside = leaves.aside ∙ turns.aside ∙ enters.aside;
+      identity = leaves.identity ∙ turns.identity ∙ enters.identity;
       left = omega (arith, enters.left, turns.left, leaves.left);
       used = omega (arith, enters.used, turns.used, leaves.used);
     }

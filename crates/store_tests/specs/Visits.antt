@@ -58,6 +58,6 @@ pub record Visits (old new : View) (turns : ℕ) (made : List (Event × Reply)) 
   pub none : own_now new ≡ []
   pub count : new.made ≡ old.made + length made + 2
   pub grant : new.grant ≡ old.grant
-  pub aside : new.aside ≡ old.aside
+  pub identity : new.identity ≡ old.identity
   pub left : new.left ≤ old.left
   pub used : old.left ≤ new.left + turns
