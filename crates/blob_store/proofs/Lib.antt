@@ -11,3 +11,4 @@ pub mod OpenLaws
 pub mod DoorSteps
 pub mod GoingOn
 pub mod RingLaws
+pub mod RestoredLaws

@@ -11,3 +11,4 @@ pub mod Benched
 pub mod Asked
 pub mod Doors
 pub mod Rings
+pub mod Restored

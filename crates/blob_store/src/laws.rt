@@ -1,18 +1,22 @@
-//! What holds of a seat's view alone, for callers of any door, and of a reading.
+//! What holds of a seat's view alone, for callers of any door, of a reading, and of a store that is loaded.
 
-ghost use Rattle.std.specs.Prelude.{◌≡◌, ◌≢◌, ◌<◌, ◌≤◌, ◌+◌, ◌^◌, ◌++◌, ◌∷◌, ℕ, true, false, List, [], length, slice_set, Some};
+ghost use Rattle.std.specs.Prelude.{◌≡◌, ◌≢◌, ◌<◌, ◌≤◌, ◌+◌, ◌^◌, ◌++◌, ◌∷◌, ℕ, true, false, List, [], length, map, slice_set, Some};
+ghost use Rattle.std.specs.List.{AllByRecursion};
 ghost use Rattle.digest_types.specs.Name.{HashAndSize};
 ghost use Rattle.digest_types.specs.Digest.{digest_of};
 ghost use Rattle.store_core.specs.declared.event.Event.{Event};
 ghost use Rattle.store_core.specs.declared.event.Event.TheVariants as events;
 ghost use Rattle.store_core.specs.declared.event.Reply.{Reply};
 ghost use Rattle.store_core.specs.declared.event.Reply.TheVariants as replies;
+ghost use Rattle.store_core.specs.declared.state.Guard.{Guard};
+ghost use Rattle.store_core.specs.State.{State, Valid, new_state, digests, used};
 ghost use Rattle.store_core.specs.Step.{step};
 ghost use Rattle.store_core.specs.History.{Entry, state, own, leases_of};
 ghost use Rattle.turn_lock.specs.Noted.{entry};
 ghost use Rattle.turn_lock.specs.Views.{Extends};
 ghost use Rattle.blob_store.specs.View.{View, IsSound, IsOwn, Turns, Makes, Waits, Enters, StaysOut, Leaves, state_of, own_now};
 ghost use Rattle.blob_store.specs.Bodies.{ReadingState, Explains};
+ghost use Rattle.blob_store.specs.Restored.{AreBodiesFor, IsRowOf, HasLinksOf, as_sound, restored, row_with, text_abc, text_ab};
 ghost use Rattle.blob_store.specs.declared.reading.ReadingEnd.TheVariants.{Damaged};
 ghost use Rattle.blob_store.specs.Benched.{Benched, IsAtStep, store_of, seat_of, view_of, seated, unseated_now};
 
@@ -54,4 +58,25 @@ pub fn bench_goes_by_steps()
 pub fn told_readings_end_well()
     ensures { (reading : ReadingState) (bytes : List ℕ) (want got : HashAndSize) → reading.told ≡ Some bytes → digest_of bytes ≡ reading.want → reading.want.size ≤ 2 ^ 60
         → Explains reading (Damaged want got) → ⊥ }
+{}
+
+/// A store that is loaded from the bodies of its rows, with its own list of use, has the same digests in the same order of use
+/// as at its end. Each row is sound and has the links of its body's bytes: where the rows had them, the rows are the same,
+/// but for those that were unsound.
+pub fn restart_keeps()
+    ensures order { (s : State) (found : List (List ℕ)) (low high : ℕ) (guard : Guard) → Valid s → AreBodiesFor s.rows found
+        → digests (restored (digests s.rows) found low high guard).rows ≡ digests s.rows }
+    ensures rows { (s : State) (found : List (List ℕ)) (low high : ℕ) (guard : Guard) → Valid s → AreBodiesFor s.rows found
+        → AllByRecursion (IsRowOf found) (restored (digests s.rows) found low high guard).rows }
+    ensures all { (s : State) (found : List (List ℕ)) (low high : ℕ) (guard : Guard) → Valid s → AreBodiesFor s.rows found → AllByRecursion (HasLinksOf found) s.rows
+        → restored (digests s.rows) found low high guard ≡ record (new_state low high guard) { rows = map as_sound s.rows } }
+{}
+
+/// Where `abc`, `ab` and `abc` again are found, and the saved list has abc and another digest, there are two rows with five
+/// bytes: ab is the least recent one, since it isn't saved.
+pub fn saved_rows_come_last()
+    ensures rows { (other : HashAndSize) (low high : ℕ) (guard : Guard) → digest_of text_abc ≢ other → digest_of text_ab ≢ other
+        → (restored (digest_of text_abc ∷ other ∷ []) (text_abc ∷ text_ab ∷ text_abc ∷ []) low high guard).rows ≡ row_with text_ab ∷ row_with text_abc ∷ [] }
+    ensures used { (other : HashAndSize) (low high : ℕ) (guard : Guard) → digest_of text_abc ≢ other → digest_of text_ab ≢ other
+        → used (restored (digest_of text_abc ∷ other ∷ []) (text_abc ∷ text_ab ∷ text_abc ∷ []) low high guard) ≡ 5 }
 {}
