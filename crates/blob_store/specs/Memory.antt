@@ -1,13 +1,14 @@
 -- The shelf in memory as a plain value, and what its calls give.
 use Rattle.std.specs.Prelude.{◌+◌, ◌-◌, ◌%◌, ◌^◌, min, not, ℕ, Bool, true, false, List, [], ◌∷◌, length, map, drop, Option, Some, None, if◌then◌else◌}
 use Rattle.casd_base.specs.Memory.{counted}
+use Rattle.digest_types.specs.Name.{HashAndSize}
 use Rattle.blob_store.specs.Shelves.{Shelved}
 use Rattle.blob_store.specs.declared.memory.MemDraft.{MemDraft}
 use Rattle.blob_store.specs.declared.memory.MemBody.{MemBody}
 use Rattle.blob_store.specs.declared.memory.MemReader.{MemReader}
 
 -- the bytes of the bodies to be found; which calls fail and which drafts are spoilt, by their numbers from 0; how many
--- calls and drafts there were; the count of faults, and how many bodies and drafts were given up
+-- calls and drafts there were; the count of faults, and how many bodies and drafts were given up; and the saved list
 pub record MemState : Type 0 where
   pub found : List (List ℕ)
   pub failing : List ℕ
@@ -17,6 +18,7 @@ pub record MemState : Type 0 where
   pub faults : ℕ
   pub discarded : ℕ
   pub dropped : ℕ
+  pub saved : List HashAndSize
 
 -- whether there are any numbers
 abbrev pub are_some : List ℕ → Bool
@@ -25,7 +27,7 @@ are_some (n ∷ numbers) = true
 
 -- what the shelf tells of itself
 abbrev pub shelved_of : MemState → Shelved
-shelved_of s = record { faults = s.faults; discarded = s.discarded; dropped = s.dropped; may_fail = are_some s.failing; found = Some (map (λ bytes. Some bytes) s.found); to_find = min (length s.found) (2 ^ 63) }
+shelved_of s = record { faults = s.faults; discarded = s.discarded; dropped = s.dropped; may_fail = are_some s.failing; found = Some (map (λ bytes. Some bytes) s.found); to_find = min (length s.found) (2 ^ 63); saved = Some s.saved }
 
 -- a call was made
 abbrev pub after_call : MemState → MemState

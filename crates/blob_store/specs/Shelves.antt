@@ -1,12 +1,14 @@
 -- What a shelf tells, and what its calls leave.
 use Rattle.std.specs.Prelude.{◌≡◌, ◌≤◌, ◌<◌, ◌++◌, ◌+◌, ◌-◌, ◌^◌, min, ℕ, zero, suc, Bool, true, List, [], ◌∷◌, length, take, Option, Some, None, IfSome, Result, IsErrOf}
 use Rattle.casd_base.specs.Causes.{Rose}
+use Rattle.digest_types.specs.Name.{HashAndSize}
 use Rattle.blob_store.specs.declared.shelf.ShelfEnd.{ShelfEnd}
 use Rattle.blob_store.specs.declared.shelf.ShelfEnd.TheVariants.{Failed}
 
 -- How many calls failed, how many bodies and how many drafts were given up, each up to 2^64 - 1; whether a call may fail
 -- at all; the bodies that are still to be found, in order and each with its bytes where it tells them, if the shelf tells
--- that; and a number that falls with each body that is found.
+-- that; a number that falls with each body that is found; and the list of use that an earlier run left, if the shelf tells
+-- that.
 pub record Shelved : Type 0 where
   pub faults : ℕ
   pub discarded : ℕ
@@ -14,14 +16,17 @@ pub record Shelved : Type 0 where
   pub may_fail : Bool
   pub found : Option (List (Option (List ℕ)))
   pub to_find : ℕ
+  pub saved : Option (List HashAndSize)
 
--- a call that finds no body leaves those that are to be found and gives none up, and the count of faults never falls
+-- a call that finds no body leaves those that are to be found and the saved list, and gives none up; and the count of faults
+-- never falls
 pub record Stays (old new : Shelved) : Type 0 where
   pub discarded : new.discarded ≡ old.discarded
   pub dropped : new.dropped ≡ old.dropped
   pub may_fail : new.may_fail ≡ old.may_fail
   pub found : new.found ≡ old.found
   pub to_find : new.to_find ≤ old.to_find
+  pub saved : new.saved ≡ old.saved
   pub later : old.faults ≤ new.faults
 
 -- a call failed: on a shelf whose calls may fail, and it was counted

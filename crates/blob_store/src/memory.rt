@@ -1,13 +1,15 @@
 //! `MemShelf`, the double in memory.
 
 ghost use Rattle.std.specs.Prelude.{◌≡◌, ◌≤◌, ◌^◌, ◌↔◌, ◌++◌, if◌then◌else◌, [], length, take, drop, Some, Contains, IsTrue, IsErr, IsErrOf, IfOk, IfErr, IfSome, OnOk, OnErr};
-ghost use Rattle.std.proofs.Common.{arith};
+ghost use Rattle.std.proofs.Common.{arith, refl};
+ghost use Rattle.store_core.specs.State.{DistinctDigests};
 ghost use Rattle.blob_store.specs.Shelves.{Stays, Finds, dropping};
 ghost use Rattle.blob_store.specs.Memory.{MemState, shelved_of, after_call, after_fault, after_lost, after_draft, after_drop, after_discard, after_found, raised_first, body_of, reader_of, first_body, told_if, given_at};
 ghost use Rattle.blob_store.specs.declared.shelf.ShelfEnd.TheVariants.{Failed as Fault, OutOfMemory as NoMemory};
 
 use crate::shelf::{Shelf, ShelfEnd};
 use casd_base::Failed;
+use digest_types::Digests;
 use proto_wire::Bytes;
 use std::alloc::Global;
 use std::marker::Model;
@@ -25,6 +27,7 @@ pub struct MemShelf {
     faults: u64,
     discarded: u64,
     dropped: u64,
+    saved: Digests,
 }
 
 /// A draft in memory, and whether its body is going to be spoilt.
@@ -49,6 +52,7 @@ pub struct MemReader {
 }
 
 impl Model for MemShelf {
+    ghost use Rattle.store_core.specs.State.{DistinctDigests};
     ghost use Rattle.blob_store.specs.Memory.{MemState};
 
     ghost Value = { MemState };
@@ -62,7 +66,10 @@ impl Model for MemShelf {
       faults = s.faults;
       discarded = s.discarded;
       dropped = s.dropped;
+      saved = s.saved;
     } };
+
+    ghost invariant = { λ s. DistinctDigests s.saved };
 }
 
 impl MemShelf {
@@ -79,6 +86,7 @@ impl MemShelf {
           faults = 0;
           discarded = 0;
           dropped = 0;
+          saved = [];
         } }
     {
         MemShelf {
@@ -91,7 +99,17 @@ impl MemShelf {
             faults: 0,
             discarded: 0,
             dropped: 0,
+            saved: Digests::new(alloc),
         }
+    }
+
+    /// The same shelf, with the list of use that an earlier run left. It takes no memory.
+    pub fn with_saved(mut self, saved: Digests) -> MemShelf
+        requires { DistinctDigests saved }
+        ensures { result ≡ record self { saved = saved } }
+    {
+        self.saved = saved;
+        self
     }
 
     /// How many bodies were given up. It takes no memory.
@@ -218,6 +236,22 @@ impl MemShelf {
     {
         self.call()?;
         Ok(first_of(&mut self.found))
+    }
+
+    /// The next look at the saved list: it fails exactly where it is told to, and else copies the list, unless memory runs
+    /// out.
+    pub fn next_saved(&mut self) -> Result<Digests, ShelfEnd>
+        ensures fails { IsErrOf result Fault ↔ Contains self.old.failing self.old.calls }
+        ensures list { IfOk result (λ ds. ds ≡ self.old.saved) }
+        ensures distinct { IfOk result (λ ds. DistinctDigests ds) }
+        ensures ok { OnOk result (self.new ≡ after_call self.old) }
+        ensures fault { IsErrOf result Fault → self.new ≡ after_fault self.old }
+        ensures memory { IsErrOf result NoMemory → self.new ≡ after_call self.old }
+        ensures later { self.old.faults ≤ self.new.faults }
+    {
+        self.call()?;
+        let digests = Digests::copy_of(self.alloc, self.saved.as_slice())?;
+        Ok(digests)
     }
 
     // Gives a draft up, and counts it.
@@ -395,5 +429,20 @@ impl Shelf for MemShelf {
         self.next_body()
     }
 
+    #[tactic(auto, using(crate::proofs::MemoryLemmas::stays_memory, crate::proofs::MemoryLemmas::some_fails))]
+    fn saved(&mut self) -> Result<Digests, ShelfEnd>
+        ensures fails { IsErrOf result Fault ↔ Contains self.old.failing self.old.calls }
+        ensures copied { IfOk result (λ ds. ds ≡ self.old.saved) }
+        ensures distinct { IfOk result (λ ds. DistinctDigests ds) }
+        ensures done { OnOk result (self.new ≡ after_call self.old) }
+        ensures fault { IsErrOf result Fault → self.new ≡ after_fault self.old }
+        ensures memory { IsErrOf result NoMemory → self.new ≡ after_call self.old }
+        ensures stays { Stays (shelved_of self.old) (shelved_of self.new) }
+    {
+        self.next_saved()
+    }
+
     ghost few = { λ s. omega arith };
+
+    ghost told = { λ s is. refl };
 }

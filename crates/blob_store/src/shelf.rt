@@ -1,10 +1,12 @@
 //! `Shelf`.
 
-ghost use Rattle.std.specs.Prelude.{◌≡◌, ◌+◌, ◌<◌, ◌≤◌, ◌^◌, ◌⊎◌, ℕ, [], List, Option, length, take, drop, IfOk, OnOk, OnErr, IfSome, IfNone};
+ghost use Rattle.std.specs.Prelude.{◌≡◌, ◌+◌, ◌<◌, ◌≤◌, ◌^◌, ◌⊎◌, ℕ, [], List, Option, length, take, drop, IfOk, OnOk, OnErr, IfSome, IfNone, IsSome};
+ghost use Rattle.store_core.specs.State.{DistinctDigests};
 ghost use Rattle.blob_store.specs.Shelves.{Shelved, Stays, Fails, HasShelfCause, discarding, dropping, appended, HasPart, Finds, FindsNone};
 ghost use Rattle.blob_store.specs.declared.shelf.ShelfEnd.TheVariants.{Failed as Fault, OutOfMemory as NoMemory};
 
 use casd_base::Failed;
+use digest_types::Digests;
 use proto_wire::OutOfMemory;
 
 /// Why a shelf refuses.
@@ -41,7 +43,7 @@ pub trait Shelf {
 
     type Reader: Drop;
 
-    // the counts of faults and of bodies and drafts that were given up, and the bodies to be found
+    // the counts of faults and of bodies and drafts that were given up, the bodies to be found, and the saved list
     ghost shelved: { Self → Shelved };
 
     // the bytes of a draft, of a body and of a reader's body, where they are told
@@ -111,8 +113,20 @@ pub trait Shelf {
         ensures discarded { (shelved self.new).discarded ≡ (shelved self.old).discarded }
         ensures dropped { (shelved self.new).dropped ≡ (shelved self.old).dropped }
         ensures may_fail { (shelved self.new).may_fail ≡ (shelved self.old).may_fail }
+        ensures saved { (shelved self.new).saved ≡ (shelved self.old).saved }
+        ensures cause { HasShelfCause (shelved self.old) (shelved self.new) result };
+
+    /// The digests in the order of their use that an earlier run left, the least recent first and each once, or the empty
+    /// list where none is left. No call changes it.
+    fn saved(&mut self) -> Result<Digests, ShelfEnd>
+        ensures list { IfOk result (λ ds. IfSome (shelved self.old).saved (λ saved. ds ≡ saved)) }
+        ensures distinct { IfOk result (λ ds. DistinctDigests ds) }
+        ensures stays { Stays (shelved self.old) (shelved self.new) }
         ensures cause { HasShelfCause (shelved self.old) (shelved self.new) result };
 
     // a shelf has at most 2^63 bodies to find
     ghost few: { (s : Self) → (shelved s).to_find ≤ 2 ^ 63 };
+
+    // a shelf that tells the bodies to be found tells the saved list too
+    ghost told: { (s : Self) → IsSome (shelved s).found → IsSome (shelved s).saved };
 }
