@@ -38,6 +38,7 @@ pub fn empty_shelf(alloc: Global) -> MemShelf
       faults = 0;
       discarded = 0;
       dropped = 0;
+      saved = [];
     } }
 {
     MemShelf::new(alloc, Vec::new(alloc), Vec::new(alloc), Vec::new(alloc))

@@ -3,9 +3,9 @@ ghost use Rattle.door_tests.specs.Fresh.{IsFresh};
 
 use crate::helpers::{enter, missing, put_bytes, put_hundred};
 use crate::{empty_shelf, unrung};
-use blob_store::{Bell, Door, Ear, Gate, LockDoor, MemShelf, PutReply, Ring, Store};
+use blob_store::{Bell, Door, Ear, Gate, LockDoor, MemShelf, PutReply, Ring, Shelf, Store};
 use std::test::*;
-use std::thread::join;
+use std::thread::{Threads, join};
 use store_core::{Guard, Marks};
 use turn_lock::{Seat as TurnSeat, TurnLock};
 
@@ -88,6 +88,40 @@ fn two_threads_put_two_hundred_blobs(rt: HostRuntime) -> Result<(), Fail> {
     let usage = lock.close(seat).usage();
     assert_eq!(rt; usage.rows, 200);
     assert_eq!(rt; usage.used, 400);
+    Ok(())
+}
+
+// What a shelf gave is dropped in other threads.
+fn drop_apart<K: Shelf, R: Threads>(rt: &R, draft: K::Draft, body: K::Body, reader: K::Reader)
+where
+    K::Draft: Send,
+    K::Body: Send,
+    K::Reader: Send,
+{
+    join(
+        rt,
+        move || drop(draft),
+        move || {
+            drop(body);
+            drop(reader);
+        },
+    );
+}
+
+#[test]
+fn a_door_and_what_a_shelf_gave_are_dropped_in_other_threads(rt: HostRuntime) -> Result<(), Fail> {
+    let mut shelf = empty_shelf(rt.alloc());
+    let sealed = shelf.draft().ok().ok_or("no draft")?;
+    let body = shelf.seal(sealed).ok().ok_or("no body")?;
+    let reader = shelf.reader(&body).ok().ok_or("no reader")?;
+    let draft = shelf.draft().ok().ok_or("no draft")?;
+    drop_apart::<MemShelf, HostRuntime>(&rt, draft, body, reader);
+
+    let (lock, seat) = locked(&rt, 1000, 1000)?;
+    let door = LockDoor::new(rt.alloc(), &rt, &lock, seat, unrung());
+    let (left, shelf) = join(&rt, move || door.left(), move || shelf);
+    assert_eq!(rt; left, 1 << 63);
+    assert_eq!(rt; shelf.faults(), 0);
     Ok(())
 }
 
