@@ -1,6 +1,6 @@
 -- What a turn at the lock is for a door.
-use Rattle.std.proofs.Common.{◌≡◌, ◌≢◌, ℕ, ◌+◌, ◌-◌, ◌^◌, ◌<◌, ◌≤◌, Bool, true, false, cond, List, [], ◌∷◌, ◌++◌, length, Option, Some, None, IfSome, refl, sym, ap, subst, ◌∙◌, arith, append_assoc}
-use Rattle.std.specs.Prelude.{nat_eq, is_some, if◌then◌else◌}
+use Rattle.std.proofs.Common.{◌≡◌, ◌≢◌, ℕ, ◌+◌, ◌-◌, ◌^◌, ◌<◌, ◌≤◌, Bool, true, false, cond, List, [], ◌∷◌, ◌++◌, length, Option, Some, IfSome, refl, sym, ap, subst, ◌∙◌, arith}
+use Rattle.std.specs.Prelude.{is_some, if◌then◌else◌}
 use Rattle.std.proofs.lemmas.List.{append-nil}
 use Rattle.atomic_table.specs.Seated.{TableId}
 use Rattle.digest_types.specs.Name.{HashAndSize}
@@ -12,14 +12,13 @@ use Rattle.store_core.specs.declared.event.Event.TheVariants as events
 use Rattle.store_core.specs.declared.event.Reply.{Reply}
 use Rattle.store_core.specs.declared.event.Reply.TheVariants as replies
 use Rattle.store_core.specs.Step.{is_open, is_opening, is_here, step}
-use Rattle.store_core.specs.History.{Entry, state, IsNumbered, IsLegalAt, Legal, own}
+use Rattle.store_core.specs.History.{Entry, IsNumbered, Legal, own}
 use Rattle.store_core.proofs.Elements.{every_contains}
 use Rattle.store_core.proofs.Histories.{valid_after}
 use Rattle.store_core.proofs.OwnerLaws.{open_has}
 use Rattle.turn_lock.specs.Noted.{entry}
 use Rattle.turn_lock.specs.Views as lock
 use Rattle.turn_lock.specs.Seats.{AtLock, number_in, author, MayGive, Takes, Ends, Gives, GivesBack}
-use Rattle.blob_store.specs.declared.seat.Seat.{Seat}
 use Rattle.blob_store.specs.Asked.{MayAsk, IsAnswer}
 use Rattle.blob_store.specs.Calls.{IsPutReply, read_reply}
 use Rattle.blob_store.specs.Bodies.{ReadingState}
@@ -27,7 +26,7 @@ use Rattle.blob_store.specs.View.{View, Turns, Makes, Waits, Enters, StaysOut, L
 use Rattle.blob_store.specs.Benched.{Benched, IsBench, IsSeatAt, view_of, own_by}
 use Rattle.blob_store.specs.Doors.{in_after, is_in, door_view, IsDoor, IsLockDoor}
 use Rattle.blob_store.proofs.ViewLaws.{extends_more, turns_more, turns_none}
-use Rattle.blob_store.proofs.BenchSteps.{NumbersFit, numbers_fit, numbers_after, next_after, open_replies, reply_is_numbered, close_is_served, IsServed, not_refused, put_replies, read_replies, pass_replies}
+use Rattle.blob_store.proofs.BenchSteps.{numbers_fit, numbers_after, next_after, open_replies, reply_is_numbered, close_is_served, IsServed, not_refused, put_replies, read_replies, pass_replies}
 use Rattle.blob_store.proofs.BenchCalls.{asked_comes, asked_served, asked_answer, read_is}
 use Rattle.blob_store.proofs.OpenLaws.{open_by_own, is_in_more}
 

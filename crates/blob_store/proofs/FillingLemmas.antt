@@ -1,10 +1,9 @@
 -- The bytes that were added to a blob, the copy that is kept of them, and the links that are read from it.
-use Rattle.std.proofs.Common.{◌≡◌, ◌≤◌, ◌+◌, ℕ, nat_lt, Bool, true, false, length, List, ◌++◌, Option, Some, None, IfSome, refl, sym, ap, ◌∙◌, lt-ltb, ltb-true, arith}
+use Rattle.std.proofs.Common.{◌≡◌, ◌+◌, ℕ, nat_lt, Bool, true, false, length, List, ◌++◌, Option, Some, None, IfSome, refl, sym, ap, ◌∙◌, lt-ltb, ltb-true, arith}
 use Rattle.std.specs.Prelude.{if◌then◌else◌}
 use Rattle.std.proofs.lemmas.Bool.{cond-true}
 use Rattle.std.proofs.lemmas.List.{length-append}
 use Rattle.digest_types.specs.Hasher.{Holds, added_len}
-use Rattle.digest_types.specs.declared.hasher.Hasher.{Hasher}
 use Rattle.directory_canon.specs.Canon.{max_len}
 use Rattle.directory_canon.specs.Links.{links, edges_by}
 use Rattle.directory_canon.specs.Reading.{canon_of}

@@ -1,12 +1,10 @@
 -- A door that only puts and finds holds no lease.
-use Rattle.std.proofs.Common.{◌≡◌, ℕ, ◌+◌, ◌≤◌, true, List, [], ◌∷◌, Option, Some, refl, sym, ap, ◌∙◌, arith}
+use Rattle.std.proofs.Common.{◌≡◌, ℕ, ◌+◌, List, [], ◌∷◌, Option, ◌∙◌, arith}
 use Rattle.digest_types.specs.Name.{HashAndSize}
 use Rattle.directory_canon.specs.declared.node.Edge.{Edge}
-use Rattle.store_core.specs.declared.state.Lease.{Lease}
 use Rattle.store_core.specs.declared.event.Event.TheVariants as events
 use Rattle.store_core.specs.declared.event.Reply.{Reply}
-use Rattle.store_core.specs.History.{Entry, own_leases}
-use Rattle.blob_store.specs.View.{View, Makes, Enters, by, own_now, leases_by}
+use Rattle.blob_store.specs.View.{View, Makes, Enters, own_now, leases_by}
 use Rattle.blob_store.specs.Doors.{GoesOn}
 use Rattle.blob_store.proofs.ViewLaws.{own_now_after}
 

@@ -1,6 +1,6 @@
 -- A store that is loaded after its end.
 use Rattle.std.proofs.Common.{◌≡◌, ◌≢◌, ℕ, ◌+◌, ◌<◌, ◌≤◌, ◌^◌, Bool, true, false, cond, not, ◌&&◌, ◌||◌, List, [], ◌∷◌, ◌++◌, length, map, Option, Some, None, Contains, refl, sym, ap, subst, ◌∙◌, arith}
-use Rattle.std.specs.Prelude.{filter, find, nat_le, nat_lt, sum_by}
+use Rattle.std.specs.Prelude.{filter, nat_le, nat_lt, sum_by}
 use Rattle.std.specs.List.{AllByRecursion, filter_map, cons_option}
 use Rattle.std.proofs.lemmas.Bool.{and_from, cond-true, cond-false, le-leb, lt-ltb, not_from_false, not_from_true}
 use Rattle.std.proofs.lemmas.List.{append-nil, append_assoc}
@@ -8,10 +8,9 @@ use Rattle.std.proofs.lemmas.List.Folds.{list_any-append}
 use Rattle.std.proofs.lemmas.List.Sums.{sum_by-cons, sum_by_push}
 use Rattle.digest_types.specs.Name.{HashAndSize}
 use Rattle.digest_types.specs.Digest.{digest_of}
-use Rattle.directory_canon.specs.Links.{links}
 use Rattle.store_core.specs.declared.state.Row.{Row}
 use Rattle.store_core.specs.declared.state.Guard.{Guard}
-use Rattle.store_core.specs.State.{State, Valid, DistinctDigests, new_state, same, is_among, is_of, row_of, has_row, digests, sizes, total, used}
+use Rattle.store_core.specs.State.{State, Valid, DistinctDigests, new_state, same, is_among, is_of, row_of, has_row, digests, sizes, total}
 use Rattle.store_core.specs.Pass.{without}
 use Rattle.store_core.proofs.Elements.{every_contains, every_has, every_map, has_first, has_later, has_map}
 use Rattle.store_core.proofs.Guarding.{same_swap}

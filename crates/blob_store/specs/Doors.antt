@@ -1,6 +1,6 @@
 -- What a door at a turn lock keeps of its seat.
-use Rattle.std.specs.Prelude.{◌≡◌, ◌+◌, ◌≤◌, ◌^◌, ℕ, Bool, true, false, List, [], ◌∷◌, Option, Some, IfSome}
-use Rattle.store_core.specs.State.{State, Valid}
+use Rattle.std.specs.Prelude.{◌≡◌, ◌+◌, ◌≤◌, ◌^◌, ℕ, Bool, true, false, List, [], ◌∷◌, Some, IfSome}
+use Rattle.store_core.specs.State.{Valid}
 use Rattle.store_core.specs.declared.event.Event.{Event}
 use Rattle.store_core.specs.declared.event.Event.TheVariants as events
 use Rattle.store_core.specs.History.{Entry}

@@ -1,6 +1,6 @@
 //! `Bench`.
 
-ghost use Rattle.std.specs.Prelude.{◌≡◌, ◌≢◌, ◌<◌, ◌≤◌, ◌^◌, ◌∷◌, ◌++◌, [], true, false, length, ℕ, Some, IfOk, IfSome, OnOk, OnErr, IsOk, IsSome, None};
+ghost use Rattle.std.specs.Prelude.{◌≡◌, ◌<◌, ◌≤◌, ◌^◌, true, false, length, ℕ, Some, IfOk, OnErr, IsOk};
 ghost use Rattle.store_core.specs.State.{Valid};
 ghost use Rattle.store_core.specs.History.{leases_of};
 ghost use Rattle.store_core.specs.Step.{usage as usage_of};
@@ -9,9 +9,9 @@ ghost use Rattle.store_core.specs.declared.event.Reply.TheVariants as replies;
 ghost use Rattle.store_core.specs.Memory.{takes_memory};
 ghost use Rattle.blob_store.specs.Asked.{MayAsk, IsAnswer};
 ghost use Rattle.blob_store.specs.Benched.{new_bench, seat_of, store_of, view_of};
-ghost use Rattle.blob_store.specs.View.{IsSeated, IsSound, Makes, Waits, Enters, StaysOut, Leaves, MayCall, own_now, holds};
-ghost use Rattle.blob_store.specs.Shelves.{Stays, HasShelfCause, discarding};
-ghost use Rattle.blob_store.specs.Calls.{put_reply, put_discards, read_reply, Begins, IsPutReply};
+ghost use Rattle.blob_store.specs.View.{Makes, Waits, MayCall, own_now};
+ghost use Rattle.blob_store.specs.Shelves.{discarding};
+ghost use Rattle.blob_store.specs.Calls.{put_reply, put_discards, IsPutReply};
 
 use crate::checked::Checked;
 use crate::door::{Door, Passed, PutReply};
@@ -154,20 +154,11 @@ impl<K: Shelf> Bench<K> {
 impl<K: Shelf> Door<K> for Bench<K> {
     ghost view = { λ b. view_of b };
 
-    fn left(&self) -> u64
-        ensures left { result ≡ (view_of self.now).left }
-        ensures sound { IsSound (view_of self.now) }
-        ensures seated { (view_of self.now).entered ≡ true → IsSeated (view_of self.now) }
-    {
+    fn left(&self) -> u64 {
         self.diary.left()
     }
 
-    fn enter(&mut self) -> Result<(), OutOfMemory>
-        requires out { (view_of self.old).entered ≡ false }
-        requires turn { 0 < (view_of self.old).left }
-        ensures ok { OnOk result (Enters (view_of self.old) (view_of self.new)) }
-        ensures err { OnErr result (StaysOut (view_of self.old) (view_of self.new)) }
-    {
+    fn enter(&mut self) -> Result<(), OutOfMemory> {
         let owner = self.store.next_owner();
         note(&mut self.store, &mut self.diary, owner, &Event::Open)?;
         self.seats[self.chosen] = Seat {
@@ -181,25 +172,14 @@ impl<K: Shelf> Door<K> for Bench<K> {
         &mut self,
         shelf: &mut K,
         blob: &mut Option<Checked<K>>,
-    ) -> Result<PutReply, OutOfMemory>
-        requires call { MayCall (view_of self.old) }
-        requires there { IsSome blob.old }
-        ensures taken { blob.new ≡ None }
-        ensures ok { IfOk result (λ r. IfSome blob.old (λ b. Makes (view_of self.old) (view_of self.new) (events.Put b.digest b.edges) (put_reply r))) }
-        ensures err { OnErr result (Waits (view_of self.old) (view_of self.new)) }
-        ensures shelf { K.shelved shelf.new ≡ discarding (put_discards result) (K.shelved shelf.old) }
-    {
+    ) -> Result<PutReply, OutOfMemory> {
         match blob.take() {
             Some(blob) => self.put_blob(shelf, blob),
             None => unreachable!(),
         }
     }
 
-    fn find(&mut self, digests: &Digests) -> Result<Digests, OutOfMemory>
-        requires { MayCall (view_of self.old) }
-        ensures ok { IfOk result (λ ds. Makes (view_of self.old) (view_of self.new) (events.Find digests.now) (replies.Missing ds)) }
-        ensures err { OnErr result (Waits (view_of self.old) (view_of self.new)) }
-    {
+    fn find(&mut self, digests: &Digests) -> Result<Digests, OutOfMemory> {
         let digests = Digests::from_vec(Vec::from_slice(self.alloc, digests.as_slice())?);
         match self.ask(&Event::Find { digests })? {
             Reply::Missing { digests } => Ok(digests),
@@ -207,63 +187,36 @@ impl<K: Shelf> Door<K> for Bench<K> {
         }
     }
 
-    fn read(&mut self, shelf: &mut K, digest: &Digest) -> Result<Option<Reading<K>>, ShelfEnd>
-        requires { MayCall (view_of self.old) }
-        ensures ok { IfOk result (λ o. Makes (view_of self.old) (view_of self.new) (events.Read digest.now) (read_reply o)) }
-        ensures begun { IfOk result (λ o. IfSome o (Begins digest.now)) }
-        ensures err { OnErr result (Waits (view_of self.old) (view_of self.new)) }
-        ensures stays { Stays (K.shelved shelf.old) (K.shelved shelf.new) }
-        ensures cause { HasShelfCause (K.shelved shelf.old) (K.shelved shelf.new) result }
-    {
+    fn read(&mut self, shelf: &mut K, digest: &Digest) -> Result<Option<Reading<K>>, ShelfEnd> {
         // It is opened before the entry is made, since a call that fails makes none.
         let reading = self.store.reading(shelf, digest)?;
         self.ask(&Event::Read { digest: *digest })?;
         Ok(reading)
     }
 
-    fn lease(&mut self, root: &Digest, kind: Kind) -> Result<u64, OutOfMemory>
-        requires { MayCall (view_of self.old) }
-        ensures ok { IfOk result (λ id. Makes (view_of self.old) (view_of self.new) (events.Lease root.now kind) (replies.Leased id)) }
-        ensures err { OnErr result (Waits (view_of self.old) (view_of self.new)) }
-    {
+    fn lease(&mut self, root: &Digest, kind: Kind) -> Result<u64, OutOfMemory> {
         match self.ask(&Event::Lease { root: *root, kind })? {
             Reply::Leased { lease } => Ok(lease),
             _ => unreachable!(),
         }
     }
 
-    fn confirm(&mut self, lease: u64, files: bool) -> Result<Standing, OutOfMemory>
-        requires call { MayCall (view_of self.old) }
-        requires own { holds (view_of self.old) lease ≡ true }
-        ensures ok { IfOk result (λ standing. Makes (view_of self.old) (view_of self.new) (events.Confirm lease files) (replies.Stands standing)) }
-        ensures err { OnErr result (Waits (view_of self.old) (view_of self.new)) }
-    {
+    fn confirm(&mut self, lease: u64, files: bool) -> Result<Standing, OutOfMemory> {
         match self.ask(&Event::Confirm { lease, files })? {
             Reply::Stands { standing } => Ok(standing),
             _ => unreachable!(),
         }
     }
 
-    fn release(&mut self, lease: u64)
-        requires call { MayCall (view_of self.old) }
-        requires own { holds (view_of self.old) lease ≡ true }
-        ensures { Makes (view_of self.old) (view_of self.new) (events.Release lease) replies.Released }
-    {
+    fn release(&mut self, lease: u64) {
         self.ask_freely(&Event::Release { lease });
     }
 
-    fn damage(&mut self, digest: &Digest)
-        requires { MayCall (view_of self.old) }
-        ensures { Makes (view_of self.old) (view_of self.new) (events.Damage digest.now) replies.Marked }
-    {
+    fn damage(&mut self, digest: &Digest) {
         self.ask_freely(&Event::Damage { digest: *digest });
     }
 
-    fn pass(&mut self, shelf: &mut K) -> Passed
-        requires { MayCall (view_of self.old) }
-        ensures made { Makes (view_of self.old) (view_of self.new) events.Pass (replies.Passed result.removed result.used) }
-        ensures shelf { K.shelved shelf.new ≡ discarding result.removed (K.shelved shelf.old) }
-    {
+    fn pass(&mut self, shelf: &mut K) -> Passed {
         let owner = self.owner();
         match note_pass(&mut self.store, &mut self.diary, shelf, owner) {
             Reply::Passed { removed, used } => Passed { removed, used },
@@ -271,21 +224,14 @@ impl<K: Shelf> Door<K> for Bench<K> {
         }
     }
 
-    fn usage(&mut self) -> Usage
-        requires { MayCall (view_of self.old) }
-        ensures { Makes (view_of self.old) (view_of self.new) events.Usage (replies.Used result) }
-    {
+    fn usage(&mut self) -> Usage {
         match self.ask_freely(&Event::Usage) {
             Reply::Used { usage } => usage,
             _ => unreachable!(),
         }
     }
 
-    fn leave(&mut self)
-        requires call { MayCall (view_of self.old) }
-        requires none { own_now (view_of self.old) ≡ [] }
-        ensures { Leaves (view_of self.old) (view_of self.new) }
-    {
+    fn leave(&mut self) {
         let owner = self.owner();
         note_freely(&mut self.store, &mut self.diary, owner, &Event::Close);
         self.seats[self.chosen] = Seat {
