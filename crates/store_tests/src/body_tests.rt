@@ -1,6 +1,6 @@
 use blob_store::{Checked, Filling, MemShelf, Reading, ReadingEnd, Shelf, ShelfEnd};
 use casd_base::Failed;
-use digest_types::Digest;
+use digest_types::{Digest, Digests};
 use proto_wire::Bytes;
 use std::alloc::Global;
 use std::test::*;
@@ -30,8 +30,8 @@ fn three<K: Shelf>(alloc: Global, shelf: &mut K, bytes: &[u8; 3]) -> Result<Chec
     filling.finish(shelf)
 }
 
-// Makes each call of a shelf once, in the order of their numbers: a draft, an addition, its seal, a reader, a read, and a
-// body that is found.
+// Makes each call of a shelf once, in the order of their numbers: a draft, an addition, its seal, a reader, a read, a body
+// that is found, and the saved list.
 fn each_call<K: Shelf>(alloc: Global, shelf: &mut K) -> Result<(), ShelfEnd> {
     let mut filling = Filling::new(alloc, shelf)?;
     if let Err(e) = filling.add(shelf, b"abc") {
@@ -47,6 +47,7 @@ fn each_call<K: Shelf>(alloc: Global, shelf: &mut K) -> Result<(), ShelfEnd> {
     if let Some(body) = shelf.next_found()? {
         shelf.discard(body);
     }
+    let _saved = shelf.saved()?;
     Ok(())
 }
 
@@ -150,6 +151,7 @@ fn each_call_fails_by_its_number(rt: HostRuntime) -> Result<(), Fail> {
         (3, 0, 0),
         (4, 0, 1),
         (5, 0, 1),
+        (6, 0, 2),
     ];
     for (number, drafts, bodies) in cases {
         let mut shelf = mem_shelf(rt.alloc(), &[b"x"], &[number], &[])?;
@@ -158,7 +160,7 @@ fn each_call_fails_by_its_number(rt: HostRuntime) -> Result<(), Fail> {
         let counts = (shelf.faults(), shelf.dropped(), shelf.discarded());
         assert_eq!(rt; counts, (1, drafts, bodies), "call {number}");
     }
-    let mut shelf = mem_shelf(rt.alloc(), &[b"x"], &[6], &[])?;
+    let mut shelf = mem_shelf(rt.alloc(), &[b"x"], &[7], &[])?;
     assert_eq!(rt; each_call(rt.alloc(), &mut shelf), Ok(()));
     assert_eq!(rt; shelf.faults(), 0);
     Ok(())
@@ -197,5 +199,17 @@ fn bodies_are_found_in_their_order(rt: HostRuntime) -> Result<(), Fail> {
         assert_eq!(rt; buf.get(..count), Some(bytes), "at {bytes:?}");
     }
     assert!(rt; shelf.next_found().is_ok_and(|o| o.is_none()));
+    Ok(())
+}
+
+#[test]
+fn the_saved_list_is_told_again_and_again(rt: HostRuntime) -> Result<(), Fail> {
+    let list = [Digest::of(b"abc")];
+    let saved = Digests::copy_of(rt.alloc(), &list).ok().ok_or("memory")?;
+    let mut shelf = mem_shelf(rt.alloc(), &[], &[], &[])?.with_saved(saved);
+    for _ in 0..2 {
+        let told = shelf.saved().ok().ok_or("no list")?;
+        assert_eq!(rt; told.as_slice(), &list[..]);
+    }
     Ok(())
 }

@@ -189,10 +189,14 @@ fn a_put_past_the_high_mark_goes_down_to_the_low_one(rt: HostRuntime) -> Result<
         (1, Act::Put(b"dddddd"), "Stored { removed: 2, used: 12 }"),
         (1, Act::Read(b"aaaaaa"), "Absent"),
         (1, Act::Read(b"bbbbbb"), "Absent"),
-        (1, Act::Read(b"cccccc"), "Found"),
         (1, Act::Read(b"dddddd"), "Found"),
+        (1, Act::Read(b"cccccc"), "Found"),
     ];
-    run(&rt, rt.alloc(), &mut store, &mut shelf, &steps)
+    run(&rt, rt.alloc(), &mut store, &mut shelf, &steps)?;
+    let used = [digest(&rt, b"dddddd"), digest(&rt, b"cccccc")];
+    let list = store.use_list().ok().ok_or("no memory")?;
+    assert_eq!(rt; list.as_slice(), &used[..]);
+    Ok(())
 }
 
 #[test]
