@@ -5,7 +5,7 @@ use Rattle.h2_frames.specs.declared.fault.FrameFault.{FrameFault}
 use Rattle.h2_frames.specs.declared.fault.FrameFault.TheVariants as reading
 use Rattle.h2_frames.specs.declared.frame.Frame.{Frame}
 use Rattle.h2_frames.specs.Reading.{Fails}
-use Rattle.h2_frames.specs.Stream.{Pending, given}
+use Rattle.h2_frames.specs.Stream.{Pending, given, begun as begun_reader}
 use Rattle.h2_session.specs.declared.fault.ConnFault.{ConnFault}
 use Rattle.h2_session.specs.declared.fault.ConnFault.TheVariants as conn
 use Rattle.hpack_tables.specs.declared.header.Header.{Header}
@@ -109,7 +109,7 @@ gives_frame old new rest (Some p) (Err (conn.Offence code place)) g e h = inr (r
   offence = h.0;
   over = h.2 ∙ (ap (λ (x : Pending). over_with (offended (at_offence old.session.part p.1) code p.0 old.session) x) (sym e) ∙ ap (λ (n : ℕ). over_with (offended (at_offence old.session.part p.1) code n old.session) new.reader) (sym h.1));
 })
-gives_frame old new rest (Some p) (Err conn.OutOfMemory) g e h = h
+gives_frame old new rest (Some p) (Err conn.OutOfMemory) g e h = (h, inl (p, g ∙ ap (λ (x : Pending). Ok (Some p, x)) (sym e)))
 
 -- a refusal of the reader is that of its definition, but for want of memory
 pub refused_given : {A : Type 0} (fault : FrameFault) (g : Result A FrameFault) (x : ℕ × ℕ) → refusal_at fault ≡ Some x → Fails fault g → g ≡ Err fault
@@ -121,20 +121,24 @@ refused_given (reading.BadStream at) g x e h = h
 refused_given reading.OutOfMemory g x e h = absurd cc
 
 pub refused_frame : (old new : Calls) (rest : Pending) (fault : FrameFault) (e : ConnFault) (s : Session) → Fails fault (given old.reader)
+    → rest ≡ record (begun_reader old.reader) { fault = Some fault }
     → ((code at : ℕ) → e ≡ conn.Offence code at → (refusal_at fault ≡ Some (code, at)) × (s ≡ offended old.session.part code at old.session))
     → (e ≡ conn.OutOfMemory → s ≡ exhausted old.session) → new ≡ over_with s rest → GivesFrame old new (Err e)
-refused_frame old new rest fault (conn.Offence code at) s g h k over =
+refused_frame old new rest fault (conn.Offence code at) s g left h k over =
     let x = h code at refl in
     let here : new.reader ≡ rest = ap (λ (c : Calls). c.reader) over in
     inl (record {
       fault = fault;
       given = refused_given fault (given old.reader) (code, at) x.0 g;
       refusal = x.0;
+      reader = here ∙ left;
       over = over ∙ (ap (λ (y : Session). over_with y rest) x.1 ∙ ap (λ (y : Pending). over_with (offended old.session.part code at old.session) y) (sym here));
     })
-refused_frame old new rest fault conn.OutOfMemory s g h k over =
-    let here : new.reader ≡ rest = ap (λ (c : Calls). c.reader) over in
-    over ∙ (ap (λ (y : Session). over_with y rest) (k refl) ∙ ap (λ (y : Pending). over_with (exhausted old.session) y) (sym here))
+refused_frame old new rest fault conn.OutOfMemory s g left h k over =
+    let here : new.reader ≡ rest = ap (λ (c : Calls). c.reader) over in (
+      over ∙ (ap (λ (y : Session). over_with y rest) (k refl) ∙ ap (λ (y : Pending). over_with (exhausted old.session) y) (sym here)),
+      inr (fault, here ∙ left),
+    )
 
 pub refused_role : (old s : Session) (fault : FrameFault) (e : ConnFault) → ((code at : ℕ) → e ≡ conn.Offence code at → (refusal_at fault ≡ Some (code, at)) × (s ≡ offended old.part code at old))
     → (e ≡ conn.OutOfMemory → s ≡ exhausted old) → s.part.role ≡ old.part.role

@@ -3,7 +3,7 @@ use Rattle.std.specs.Prelude.{◌≡◌, ◌&&◌, ◌⊎◌, ◌++◌, ℕ, Boo
 use Rattle.h2_frames.specs.declared.frame.Frame.{Frame}
 use Rattle.h2_frames.specs.declared.fault.FrameFault.{FrameFault}
 use Rattle.h2_frames.specs.declared.fault.FrameFault.TheVariants as reading
-use Rattle.h2_frames.specs.Stream.{Pending, given}
+use Rattle.h2_frames.specs.Stream.{Pending, given, begun as begun_reader}
 use Rattle.h2_session.specs.declared.fault.ConnFault.{ConnFault}
 use Rattle.h2_session.specs.declared.fault.ConnFault.TheVariants as conn
 use Rattle.h2_session.specs.declared.role.Role.{Role}
@@ -95,11 +95,12 @@ refusal_at reading.OutOfMemory = None
 abbrev pub over_with : Session → Pending → Calls
 over_with s r = record { reader = r; session = s; calls = []; pending = [] }
 
--- the bytes at the front of the rest are malformed
+-- the bytes at the front of the rest are malformed, and the rest stays
 pub record OffendsAtFront (old : Calls) (code at : ℕ) (new : Calls) : Type 0 where
   pub fault : FrameFault
   pub given : given old.reader ≡ Err fault
   pub refusal : refusal_at fault ≡ Some (code, at)
+  pub reader : new.reader ≡ record (begun_reader old.reader) { fault = Some fault }
   pub over : new ≡ over_with (offended old.session.part code at old.session) new.reader
 
 -- the next frame is one that the peer may not send
@@ -112,6 +113,18 @@ pub record OffendsByFrame (old : Calls) (code at : ℕ) (new : Calls) : Type 0 w
 -- without memory the connection ends
 abbrev pub GivesUp : Calls → Calls → Type 0
 GivesUp old new = new ≡ over_with (exhausted old.session) new.reader
+
+-- the same while bytes are fed: those that were fed before stay
+abbrev pub GivesUpFeeding : Calls → Calls → Type 0
+GivesUpFeeding old new = new ≡ over_with (exhausted old.session) (record old.reader { fault = Some reading.OutOfMemory })
+
+-- a frame was read, or the rest stays, with a fault
+abbrev pub HasRead : Pending → Pending → Type 0
+HasRead old new = ((p : ℕ × Frame) × (given old ≡ Ok (Some p, new))) ⊎ ((fault : FrameFault) × (new ≡ record (begun_reader old) { fault = Some fault }))
+
+-- the same while a frame is read
+abbrev pub GivesUpReading : Calls → Calls → Type 0
+GivesUpReading old new = GivesUp old new × HasRead old.reader new.reader
 
 -- a frame that the peer may not send, or want of memory
 abbrev pub OffendsOr : ℕ → Frame → Calls → Calls → ConnFault → Type 0
@@ -131,14 +144,14 @@ abbrev pub GivesFrame : Calls → Calls → Result Bool ConnFault → Type 0
 GivesFrame old new (Ok false) = ReadsNone old new
 GivesFrame old new (Ok true) = (at : ℕ) × (f : Frame) × Reads old at f new
 GivesFrame old new (Err (conn.Offence code at)) = OffendsAtFront old code at new ⊎ OffendsByFrame old code at new
-GivesFrame old new (Err conn.OutOfMemory) = GivesUp old new
+GivesFrame old new (Err conn.OutOfMemory) = GivesUpReading old new
 
 -- what the next bytes give
 abbrev pub GivesNext : Calls → Calls → Result (Option CallEvent) ConnFault → Type 0
 GivesNext old new (Ok None) = ReadsNone old new
 GivesNext old new (Ok (Some e)) = ReadsEvent old e new
 GivesNext old new (Err (conn.Offence code at)) = OffendsAtFront old code at new ⊎ OffendsByFrame old code at new
-GivesNext old new (Err conn.OutOfMemory) = GivesUp old new
+GivesNext old new (Err conn.OutOfMemory) = GivesUpReading old new
 
 -- the same behind frames without an event
 pub record Answers (old new : Calls) (result : Result (Option CallEvent) ConnFault) : Type 0 where

@@ -16,7 +16,7 @@ ghost use Rattle.hpack_tables.specs.Table.{list_size};
 ghost use Rattle.grpc_calls.specs.declared.call.Reading.TheVariants as readings;
 ghost use Rattle.grpc_calls.specs.Headers.{refusal_headers, trailers};
 ghost use Rattle.grpc_calls.specs.Streams.{told_by, is_fresh};
-ghost use Rattle.grpc_calls.specs.Calls.{refusal_at, Hears, Heeds, GivesFrame, GivesHeard, OffendsOr, Answers, GivesUp, Says, IsOpen, Opened, may_reply, Begins, BeginsWith, Replies, Finishes, HalfCloses, Cancels, over_with};
+ghost use Rattle.grpc_calls.specs.Calls.{refusal_at, Hears, Heeds, GivesFrame, GivesHeard, OffendsOr, Answers, GivesUp, GivesUpFeeding, Says, IsOpen, Opened, may_reply, Begins, BeginsWith, Replies, Finishes, HalfCloses, Cancels, over_with};
 ghost use Rattle.grpc_calls.specs.Held.{held};
 
 use crate::answer::{answer_headers, framed, refusal_headers, request_headers, trailers};
@@ -139,7 +139,7 @@ impl Calls {
         requires { self.old.reader.at + (length self.old.reader.rest + length bytes.now) ≤ 2 ^ 60 }
         ensures latched { IfSome self.old.session.fault (λ e. (IsErr result ↔ (e ≡ NoMemory)) × (self.new ≡ self.old)) }
         ensures ok { self.old.session.fault ≡ None → OnOk result (self.new ≡ record self.old { reader = fed bytes.now self.old.reader }) }
-        ensures err { self.old.session.fault ≡ None → OnErr result (GivesUp self.old self.new) }
+        ensures err { self.old.session.fault ≡ None → OnErr result (GivesUpFeeding self.old self.new) }
         ensures count { self.new.reader.at + length self.new.reader.rest ≤ self.old.reader.at + (length self.old.reader.rest + length bytes.now) }
     {
         match self.session.fault() {
@@ -153,7 +153,7 @@ impl Calls {
         requires room { self.old.reader.at + (length self.old.reader.rest + length bytes.now) ≤ 2 ^ 60 }
         requires sound { self.old.session.fault ≡ None }
         ensures ok { OnOk result (self.new ≡ record self.old { reader = fed bytes.now self.old.reader }) }
-        ensures err { OnErr result (GivesUp self.old self.new) }
+        ensures err { OnErr result (GivesUpFeeding self.old self.new) }
         ensures count { self.new.reader.at + length self.new.reader.rest ≤ self.old.reader.at + (length self.old.reader.rest + length bytes.now) }
     {
         if self.reader.feed(bytes).is_err() {

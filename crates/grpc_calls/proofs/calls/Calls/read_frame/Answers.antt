@@ -21,7 +21,7 @@ pub returns-in-Err-clause-gives : goal.returns-in-Err-clause-gives
 returns-in-Err-clause-gives c =
     let before : Calls = record { reader = c.self.inside.reader; session = c.self.inside.session; calls = c.self.inside.calls.items; pending = c.self.inside.pending.items } in
     let P : Calls → Type 0 = λ (x : Calls). GivesFrame x c.drop_calls.new.self (Err c.refuse-fault.result) in
-    subst P c.self.view_is (refused_frame before c.drop_calls.new.self c.next_frame.new.reader c.in-Err.fault c.refuse-fault.result c.refuse-fault.new.session c.in-Err.ensures.exact.0
+    subst P c.self.view_is (refused_frame before c.drop_calls.new.self c.next_frame.new.reader c.in-Err.fault c.refuse-fault.result c.refuse-fault.new.session c.in-Err.ensures.exact.0 c.in-Err.ensures.exact.1
     c.refuse-fault.ensures.offence c.refuse-fault.ensures.memory c.drop_calls.ensures)
 
 pub returns-in-Err-clause-role : goal.returns-in-Err-clause-role
