@@ -18,6 +18,13 @@ use Rattle.grpc_calls.specs.declared.refusal.Refusal.{Refusal}
 use Rattle.grpc_calls.specs.Framing.{Taken, keeps, ends, broken, behind_events, taken, status_of}
 use Rattle.grpc_calls.specs.Headers.{refusal_of, path_of, is_ok, status_in, bad_answer}
 
+-- a call, as it is read, and why a request is refused, for those who speak of a connection as a whole
+abbrev pub Row : Type 0
+Row = Call
+
+abbrev pub Refused : Type 0
+Refused = Refusal
+
 -- ---- the reading of one stream
 
 -- The peer ends the stream without trailers. At a client that is no answer.

@@ -3,6 +3,7 @@
 ghost use Rattle.std.specs.Prelude.{◌≡◌, ◌≤◌, ◌<◌, ◌+◌, ◌-◌, ◌^◌, ◌↔◌, min, ◌∷◌, ◌++◌, [], ℕ, List, None, Some, Err, Ok, true, false, length, is_none, IfOk, IfErr, IfSome, IsNone, IsErr, OnOk, OnErr};
 ghost use Rattle.h2_frames.specs.Spelling.{IsSpelling};
 ghost use Rattle.h2_frames.specs.Stream.{fresh, fed, rest_place};
+ghost use Rattle.proto_wire.specs.Reading.{IsBytes};
 ghost use Rattle.h2_session.specs.declared.fault.ConnFault.TheVariants.{Offence as Offends, OutOfMemory as NoMemory};
 ghost use Rattle.grpc_calls.specs.declared.event.CallEvent.{CallEvent as ACallEvent};
 ghost use Rattle.h2_session.specs.declared.event.Out.TheVariants as outs;
@@ -141,6 +142,9 @@ impl Calls {
         ensures ok { self.old.session.fault ≡ None → OnOk result (self.new ≡ record self.old { reader = fed bytes.now self.old.reader }) }
         ensures err { self.old.session.fault ≡ None → OnErr result (GivesUpFeeding self.old self.new) }
         ensures count { self.new.reader.at + length self.new.reader.rest ≤ self.old.reader.at + (length self.old.reader.rest + length bytes.now) }
+        // What is read are bytes, and only the connection keeps a refusal.
+        ensures bytes { IsBytes bytes.now }
+        ensures sound { self.old.session.fault ≡ None → self.old.reader.fault ≡ None }
     {
         match self.session.fault() {
             Some(ConnFault::OutOfMemory) => Err(OutOfMemory),
@@ -176,7 +180,7 @@ impl Calls {
         if let Some(fault) = self.session.fault() {
             return Err(fault);
         }
-        match self.take_pending() {
+        match self.take_event() {
             Some(event) => Ok(Some(event)),
             None => self.read_on(),
         }
@@ -195,14 +199,14 @@ impl Calls {
             if !self.read_frame()? {
                 return Ok(None);
             }
-            if let Some(event) = self.take_pending() {
+            if let Some(event) = self.take_event() {
                 return Ok(Some(event));
             }
         }
     }
 
-    /// The next event of those that wait.
-    fn take_pending(&mut self) -> Option<CallEvent>
+    /// The next event of the frames that were read. It takes no memory.
+    pub fn take_event(&mut self) -> Option<CallEvent>
         ensures some { IfSome result (λ e. self.old.pending ≡ e ∷ self.new.pending) }
         ensures none { IsNone result → (self.old.pending ≡ []) × (self.new ≡ self.old) }
         ensures rest { self.new ≡ record self.old { pending = self.new.pending } }
@@ -210,8 +214,8 @@ impl Calls {
         self.pending.pop_front()
     }
 
-    /// Reads the next frame, if it is there whole.
-    fn read_frame(&mut self) -> Result<bool, ConnFault>
+    /// Reads the next frame, if it is there whole, once all events of those before it were taken. It answers whether it was there.
+    pub fn read_frame(&mut self) -> Result<bool, ConnFault>
         requires sound { self.old.session.fault ≡ None }
         requires empty { self.old.pending ≡ [] }
         ensures gives { GivesFrame self.old self.new result }
@@ -594,6 +598,13 @@ impl Calls {
         ensures { result ≡ waiting (stream_of stream self.now.session.part) }
     {
         self.session.waiting(stream)
+    }
+
+    /// How many streams are live, or 2^32 - 1 for more. It takes no memory.
+    pub fn live(&self) -> u32
+        ensures { result ≡ min (length self.now.session.part.streams) (2 ^ 32 - 1) }
+    {
+        self.session.live()
     }
 
     /// Whether more may be handed in for a call: at a server until it is finished, at a client until it half-closes. It takes no
