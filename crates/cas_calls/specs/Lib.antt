@@ -1,0 +1,7 @@
+pub mod Script
+pub mod Plays
+pub mod Statuses
+pub mod Update
+pub mod Judged
+pub mod Capable
+pub mod Runs

@@ -1,0 +1,14 @@
+//! The calls of ContentAddressableStorage and Capabilities (Remote Execution API v2) over any door to the store: a request that
+//! was read becomes entries of the door's owner and a response or a status. What a call does is its script, a tree of entries,
+//! questions to the shelf and places where memory is needed. It knows no connection.
+#![tactic(auto)]
+
+mod capable;
+mod keep;
+mod put;
+mod status;
+mod update;
+
+pub use capable::capabilities;
+pub use status::{fault_status, many_messages, no_message, not_built, out_of_memory};
+pub use update::batch_update;

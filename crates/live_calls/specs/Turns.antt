@@ -1,0 +1,113 @@
+-- What a call does when it begins, and when something happens to it.
+use Rattle.std.specs.Prelude.{◌≡◌, codes, ℕ, List, [], ◌∷◌, Option, Some, None, Result, Ok, Err}
+use Rattle.casd_base.specs.declared.code.Code.TheVariants as code
+use Rattle.casd_base.specs.declared.status.Status.{Status}
+use Rattle.cas_messages.specs.Table.{Value}
+use Rattle.cas_messages.specs.Meaning.{message_in}
+use Rattle.cas_messages.specs.Tables.{get_capabilities_request}
+use Rattle.cas_messages.specs.declared.error.MessageError.{MessageError}
+use Rattle.blob_store.specs.View.{View}
+use Rattle.blob_store.specs.Shelves.{Shelved}
+use Rattle.cas_calls.specs.Script.{Script, End, Room, and_then}
+use Rattle.cas_calls.specs.Plays.{IsIn, Plays}
+use Rattle.cas_calls.specs.Statuses.{fine, no_message, many_messages, out_of_memory, fault_status}
+use Rattle.cas_calls.specs.Update.{Update, Answered, update_in, update_script, response_spelled}
+use Rattle.cas_calls.specs.Capable.{capabilities_spelled}
+use Rattle.live_calls.specs.declared.method.Method.{Method}
+use Rattle.live_calls.specs.declared.method.Method.TheVariants as methods
+use Rattle.live_calls.specs.declared.place.Messages.{Messages}
+use Rattle.live_calls.specs.declared.place.Messages.TheVariants as messages
+use Rattle.live_calls.specs.declared.place.Place.{Place}
+use Rattle.live_calls.specs.declared.place.Place.TheVariants as places
+use Rattle.live_calls.specs.declared.happening.Happening.{Happening}
+use Rattle.live_calls.specs.declared.happening.Happening.TheVariants as happenings
+use Rattle.live_calls.specs.declared.outcome.Outcome.{Outcome}
+use Rattle.live_calls.specs.declared.outcome.Outcome.TheVariants as outcomes
+use Rattle.live_calls.specs.Methods.{method_of}
+
+-- how a turn of a call ends
+abbrev pub Turn : Type 0
+Turn = Script Outcome
+
+-- it waits
+abbrev pub waits : Place → Turn
+waits place = End (outcomes.Rests place)
+
+-- it is refused
+abbrev pub refused : Status → Turn
+refused status = End (outcomes.Finishes None status)
+
+-- it is answered with one message
+abbrev pub replied : List ℕ → Turn
+replied message = End (outcomes.Finishes (Some message) fine)
+
+-- memory was wanting
+abbrev pub wanting : Turn
+wanting = refused out_of_memory
+
+-- no method has the path of the request
+abbrev pub no_method : Status
+no_method = record { code = code.Unimplemented; text = codes "no such method" }
+
+-- ---- a request begins
+
+abbrev pub begun_by : Option Method → Turn
+begun_by None = refused no_method
+begun_by (Some method) = waits (places.Unary method messages.Nothing)
+
+abbrev pub begun : List ℕ → Turn
+begun path = begun_by (method_of path)
+
+-- ---- the one message of a unary call is answered
+
+abbrev pub capable_by : Result (Value get_capabilities_request) MessageError → Turn
+capable_by (Err fault) = refused (fault_status fault)
+capable_by (Ok request) = replied capabilities_spelled
+
+-- GetCapabilities
+abbrev pub capable_turn : List ℕ → Turn
+capable_turn message = Room wanting (capable_by (message_in get_capabilities_request message))
+
+abbrev pub updated : Answered → Turn
+updated (Ok answers) = Room wanting (replied (response_spelled answers))
+updated (Err status) = refused status
+
+abbrev pub update_by : Result Update MessageError → Turn
+update_by (Err fault) = refused (fault_status fault)
+update_by (Ok r) = and_then (update_script r) updated
+
+-- BatchUpdateBlobs
+abbrev pub update_turn : List ℕ → Turn
+update_turn message = Room wanting (update_by (update_in message))
+
+abbrev pub answered_with : Method → List ℕ → Turn
+answered_with methods.BatchUpdateBlobs message = update_turn message
+answered_with methods.GetCapabilities message = capable_turn message
+
+-- a unary call takes one message
+abbrev pub answered : Method → Messages → Turn
+answered method messages.Nothing = refused no_message
+answered method (messages.One message) = answered_with method message
+answered method messages.Many = refused many_messages
+
+-- ---- something happens to a call
+
+-- one more message came
+abbrev pub one_more : List ℕ → Messages → Messages
+one_more message messages.Nothing = messages.One message
+one_more message (messages.One other) = messages.Many
+one_more message messages.Many = messages.Many
+
+abbrev pub unary_turn : Method → Messages → Happening → Turn
+unary_turn method ms (happenings.Message message) = waits (places.Unary method (one_more message ms))
+unary_turn method ms happenings.HalfClosed = answered method ms
+unary_turn method ms happenings.Cancelled = End outcomes.Vanishes
+unary_turn method ms (happenings.Broken status) = refused status
+
+abbrev pub turn_at : Place → Happening → Turn
+turn_at (places.Unary method ms) happening = unary_turn method ms happening
+turn_at places.Away happening = End outcomes.Vanishes
+
+-- a turn that makes no entry and leaves the shelf alone
+abbrev pub Ends : Turn → Outcome → Type 0
+Ends turn outcome = (v : View) (x : Shelved) → IsIn v → Plays turn v v x x 0 outcome

@@ -1,0 +1,139 @@
+//! The turns of a call.
+
+ghost use Rattle.std.specs.Prelude.{◌≡◌, ◌≤◌, ◌^◌, true};
+ghost use Rattle.cas_calls.specs.Script.{End};
+ghost use Rattle.cas_calls.specs.Plays.{Plays};
+ghost use Rattle.live_calls.specs.Turns.{begun, answered, answered_with, one_more, unary_turn, turn_at, no_method};
+
+use crate::happening::Happening;
+use crate::method::Method;
+use crate::outcome::{Outcome, refuse};
+use crate::place::{Messages, Place};
+use crate::{batch, caps};
+use blob_store::{Door, Shelf};
+use cas_calls::{many_messages, no_message};
+use casd_base::{Code, Status};
+use proto_wire::{Bytes, Text};
+use std::alloc::Global;
+
+fn no_method() -> Status
+    ensures { result ≡ no_method }
+{
+    Status {
+        code: Code::Unimplemented,
+        text: Text::short("no such method"),
+    }
+}
+
+/// A request of this path begins. It takes no memory and makes no entry.
+pub fn begin(path: &[u8]) -> Outcome
+    ensures { begun path.now ≡ End result }
+{
+    match Method::of_path(path) {
+        Some(method) => Outcome::Rests(Place::Unary {
+            method,
+            messages: Messages::Nothing,
+        }),
+        None => refuse(no_method()),
+    }
+}
+
+/// One more message came.
+fn one_more(message: Bytes, messages: Messages) -> Messages
+    ensures { result ≡ one_more message messages }
+{
+    match messages {
+        Messages::Nothing => Messages::One(message),
+        Messages::One(_) | Messages::Many => Messages::Many,
+    }
+}
+
+/// Answers the one message of a unary call.
+fn answer_with<K: Shelf, D: Door<K>>(
+    alloc: Global,
+    door: &mut D,
+    shelf: &mut K,
+    method: Method,
+    message: &[u8],
+) -> Outcome
+    requires is_in { (D.view door.old).entered ≡ true }
+    requires turns { 2 ^ 30 ≤ (D.view door.old).left }
+    ensures { Plays (answered_with method message.now) (D.view door.old) (D.view door.new) (K.shelved shelf.old) (K.shelved shelf.new) (2 ^ 22) result }
+{
+    match method {
+        Method::BatchUpdateBlobs => batch::answer(alloc, door, shelf, message),
+        Method::GetCapabilities => {
+            let _turns = door.left();
+            caps::answer(alloc, message)
+        }
+    }
+}
+
+/// Answers a unary call.
+fn answer<K: Shelf, D: Door<K>>(
+    alloc: Global,
+    door: &mut D,
+    shelf: &mut K,
+    method: Method,
+    messages: &Messages,
+) -> Outcome
+    requires is_in { (D.view door.old).entered ≡ true }
+    requires turns { 2 ^ 30 ≤ (D.view door.old).left }
+    ensures { Plays (answered method messages.now) (D.view door.old) (D.view door.new) (K.shelved shelf.old) (K.shelved shelf.new) (2 ^ 22) result }
+{
+    let _turns = door.left();
+    match messages {
+        Messages::Nothing => refuse(no_message()),
+        Messages::One(message) => answer_with(alloc, door, shelf, method, message.as_slice()),
+        Messages::Many => refuse(many_messages()),
+    }
+}
+
+/// Something happens to a unary call.
+fn resume_unary<K: Shelf, D: Door<K>>(
+    alloc: Global,
+    door: &mut D,
+    shelf: &mut K,
+    method: Method,
+    messages: Messages,
+    happening: Happening,
+) -> Outcome
+    requires is_in { (D.view door.old).entered ≡ true }
+    requires turns { 2 ^ 30 ≤ (D.view door.old).left }
+    ensures { Plays (unary_turn method messages happening) (D.view door.old) (D.view door.new) (K.shelved shelf.old) (K.shelved shelf.new) (2 ^ 22) result }
+{
+    let _turns = door.left();
+    match happening {
+        Happening::Message(message) => Outcome::Rests(Place::Unary {
+            method,
+            messages: one_more(message, messages),
+        }),
+        Happening::HalfClosed => answer(alloc, door, shelf, method, &messages),
+        Happening::Cancelled => Outcome::Vanishes,
+        Happening::Broken(status) => refuse(status),
+    }
+}
+
+/// Something happens to a call that waits: it takes its turn. The door is entered and may take 2^30 turns, of which at most
+/// 2^22 are used.
+pub fn resume<K: Shelf, D: Door<K>>(
+    alloc: Global,
+    door: &mut D,
+    shelf: &mut K,
+    place: Place,
+    happening: Happening,
+) -> Outcome
+    requires is_in { (D.view door.old).entered ≡ true }
+    requires turns { 2 ^ 30 ≤ (D.view door.old).left }
+    ensures { Plays (turn_at place happening) (D.view door.old) (D.view door.new) (K.shelved shelf.old) (K.shelved shelf.new) (2 ^ 22) result }
+{
+    match place {
+        Place::Unary { method, messages } => {
+            resume_unary(alloc, door, shelf, method, messages, happening)
+        }
+        Place::Away => {
+            let _turns = door.left();
+            Outcome::Vanishes
+        }
+    }
+}
