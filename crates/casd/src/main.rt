@@ -9,13 +9,15 @@ use std::process::ExitCode;
 use std::{env, io};
 
 const USAGE: &str = "usage: casd replay records < RECORDS
-Each record of standard input is answered by a line on standard output.";
+       casd replay h2 < BYTES
+Each record of standard input is answered by a line on standard output; or the bytes of a client of HTTP/2 are
+answered by those of a server.";
 
 /// What a status means, where it isn't 0.
 fn meaning(status: u8) -> &'static str {
     match status {
         2 => USAGE,
-        3 => "casd: a line of the input is malformed",
+        3 => "casd: the input is malformed",
         4 => "casd: standard input could not be read",
         5 => "casd: standard output could not be written",
         6 => "casd: out of memory",

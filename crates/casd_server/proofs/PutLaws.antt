@@ -1,5 +1,5 @@
 -- What a put at a bench leaves: its step, the seats, the leases and the count of entries.
-use Rattle.std.proofs.Common.{◌≡◌, ◌≢◌, ℕ, ◌+◌, ◌^◌, ◌<◌, ◌≤◌, ◌∙◌, Bool, true, false, not, cond, List, [], ◌∷◌, ◌++◌, length, get_or, drop, Option, Some, None, Result, Ok, Err, IfOk, refl, sym, ap, subst, arith}
+use Rattle.std.proofs.Common.{◌≡◌, ◌≢◌, ℕ, ◌+◌, ◌^◌, ◌<◌, ◌≤◌, ◌∙◌, Bool, true, false, not, cond, List, [], ◌∷◌, ◌++◌, length, get_or, drop, Option, Some, Result, Ok, Err, IfOk, refl, sym, ap, subst, arith}
 use Rattle.std.specs.Prelude.{slice_index_or}
 use Rattle.digest_types.specs.Name.{HashAndSize}
 use Rattle.digest_types.specs.Digest.{digest_of}
@@ -8,13 +8,12 @@ use Rattle.directory_canon.specs.Links.{links}
 use Rattle.casd_base.specs.declared.status.Status.{Status}
 use Rattle.cas_messages.specs.declared.blobs.BatchUpdateBlobsRequestItem2.{BatchUpdateBlobsRequestItem2 as UpdateItem}
 use Rattle.cas_messages.specs.declared.blobs.BatchUpdateBlobsResponseItem1.{BatchUpdateBlobsResponseItem1 as UpdateAnswer}
-use Rattle.store_core.specs.declared.state.Row.{Row}
 use Rattle.store_core.specs.declared.state.Lease.{Lease}
 use Rattle.store_core.specs.declared.event.Event.{Event}
 use Rattle.store_core.specs.declared.event.Event.TheVariants as events
 use Rattle.store_core.specs.declared.event.Reply.{Reply}
-use Rattle.store_core.specs.State.{State, row_of, same}
-use Rattle.store_core.specs.Step.{with_room, put_over, put, served, step}
+use Rattle.store_core.specs.State.{State, same}
+use Rattle.store_core.specs.Step.{served, step}
 use Rattle.store_core.proofs.Same.{same_from_equal, not_same_from_other}
 use Rattle.store_core.proofs.Uses.{put_uses}
 use Rattle.blob_store.specs.Bodies.{Sealed, IsSealed}

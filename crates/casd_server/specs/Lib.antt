@@ -9,5 +9,6 @@ pub mod Pending
 pub mod Input
 pub mod Output
 pub mod Replay
+pub mod H2
 pub mod Going
 pub mod Ends

@@ -1,6 +1,6 @@
 //! Replaying records: lines of calls on standard input become lines of answers.
 
-ghost use Rattle.std.specs.Prelude.{◌≡◌, ◌≢◌, ◌⊎◌, ◌↔◌, ◌+◌, ◌-◌, length, IfSome, IfNone, None, if◌then◌else◌, ◌≤◌, ◌<◌, ◌^◌, ℕ, List, Option, map, IfOk, IfErr, OnOk, OnErr, IsErrOf, IsTrue, MatchOption, Some, true, false, string_bytes};
+ghost use Rattle.std.specs.Prelude.{◌≡◌, ◌≢◌, ◌⊎◌, ◌+◌, ◌-◌, length, IfSome, IfNone, None, if◌then◌else◌, ◌≤◌, ◌<◌, ◌^◌, ℕ, List, Option, IfOk, IfErr, OnOk, OnErr, IsErrOf, MatchOption, Some, true, false, string_bytes};
 ghost use Rattle.casd_base.specs.Causes.{Rose};
 ghost use Rattle.casd_base.specs.Streams.{Adds};
 ghost use Rattle.casd_server.specs.Output.{AddsPart};
@@ -8,24 +8,17 @@ ghost use Rattle.casd_server.specs.Record.{record_of};
 ghost use Rattle.casd_server.specs.Answer.{Seated};
 ghost use Rattle.casd_server.specs.Run.{line_result, malformed_text};
 ghost use Rattle.casd_server.specs.Going.{Going};
-ghost use Rattle.casd_server.specs.Replay.{Replays, AreRecordsWords, status_of};
+ghost use Rattle.casd_server.specs.Replay.{Replays, status_of};
 ghost use Rattle.casd_server.specs.declared.records.End.TheVariants as ends;
 
 use crate::input::{Found, Input, Stop};
+use crate::marks::DEFAULT_MARKS;
 use crate::output::write_all;
 use crate::parse::parse;
 use crate::seats::Seats;
 use casd_base::{Sink, SinkEnd, Source};
 use proto_wire::OutOfMemory;
 use std::alloc::{AllocError, Global};
-use store_core::{Guard, Marks};
-
-/// The marks of a store that is told none, in bytes.
-const DEFAULT_MARKS: Marks = Marks {
-    low: 1_610_612_736,
-    high: 2_147_483_648,
-    guard: Guard::Leases,
-};
 
 /// How a replay ended.
 #[derive(Clone, Copy, Debug, PartialEq, Eq)]
@@ -231,37 +224,16 @@ fn run<S: Source, W: Sink>(alloc: Global, source: &mut S, sink: &mut W) -> Resul
     }
 }
 
-fn are_words(words: &[&str], wanted: &[&str]) -> bool
-    ensures { IsTrue result ↔ (map (λ w. w.now) words.now ≡ map (λ w. w.now) wanted.now) }
-{
-    words == wanted
-}
-
-fn are_records_words(words: &[&str]) -> bool
-    ensures { IsTrue result ↔ AreRecordsWords (map (λ w. w.now) words.now) }
-{
-    are_words(words, &["replay", "records"]) || are_words(words, &["replay", "records", "--"])
-}
-
-/// Runs the records of the source, and writes their answers to the sink. The words are those of the command line,
-/// without the program's name. It answers the status of the process: 0 where all was answered, 2 for other words than
-/// `replay records`, 3 for a malformed line, 4 and 5 for a fault of the source and the sink, 6 where memory ran out,
-/// 7 where 2^50 bytes were read.
-pub fn replay<S: Source, W: Sink>(alloc: Global, words: &[&str], source: &mut S, sink: &mut W) -> u8
-    // The status is that of an end, and what was read and written is what that end says.
+/// Runs the records of the source, writes their answers to the sink, and answers the status of the process.
+pub(crate) fn replay_records<S: Source, W: Sink>(alloc: Global, source: &mut S, sink: &mut W) -> u8
     ensures replays { (end : End) × (result ≡ status_of end)
         × Replays (S.left source.old) (S.left source.new) (W.written sink.old) (W.written sink.new) end }
-    ensures refused { (result ≡ 2) ↔ ¬ AreRecordsWords (map (λ w. w.now) words.now) }
-    ensures untouched { result ≡ 2 → (S.left source.new ≡ S.left source.old) × (W.written sink.new ≡ W.written sink.old) }
-    // A fault is answered only where it was counted, and no count falls.
+    ensures words { result ≢ 2 }
     ensures read_fault { result ≡ 4 → Rose (S.read_faults source.old) (S.read_faults source.new) }
     ensures write_fault { result ≡ 5 → Rose (W.write_faults sink.old) (W.write_faults sink.new) }
     ensures reads_later { S.read_faults source.old ≤ S.read_faults source.new }
     ensures writes_later { W.write_faults sink.old ≤ W.write_faults sink.new }
 {
-    if !are_records_words(words) {
-        return End::Refused.status();
-    }
     let end = match run(alloc, source, sink) {
         Ok(end) | Err(end) => end,
     };

@@ -256,9 +256,13 @@ fn a_run_ends_where_it_has_to(rt: HostRuntime) -> Result<(), Fail> {
 #[test]
 fn other_words_are_refused(rt: HostRuntime) {
     let alloc = rt.alloc();
-    let cases: [(&[&str], u8); 7] = [
+    let cases: [(&[&str], u8); 11] = [
         (&["replay", "records"], 0),
         (&["replay", "records", "--"], 0),
+        (&["replay", "h2"], 0),
+        (&["replay", "h2", "--"], 0),
+        (&["replay", "h3"], 2),
+        (&["replay", "h2", "records"], 2),
         (&["replay"], 2),
         (&["replay", "--", "records"], 2),
         (&["replay", "records", "--help"], 2),

@@ -1,6 +1,6 @@
 use Rattle.std.proofs.Common.{sym, ◌∙◌}
 use Rattle.casd_server.proofs.WordsLemmas.{texts_from_same, same_from_texts}
-use Rattle.casd_server.proofs.records.are_words.Goals as goal
+use Rattle.casd_server.proofs.command.are_words.Goals as goal
 
 pub returns : goal.returns
 returns c = (
