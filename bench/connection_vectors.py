@@ -1,5 +1,6 @@
 #!/usr/bin/python3
-"""Prints src/clients.rt of connection_tests: what clients send on a connection, and what they are to be answered.
+"""Prints src/clients.rt of connection_tests: what clients send on a connection, and what they are to be answered. With the name of a
+folder it writes what the first one sends, and is answered, there as calls.h2 and calls.answers instead.
 
 The first client is Debian's python3-h2 itself; it also reads the answers, and this script fails where it reads anything else than
 the calls' headers, messages and trailers. The second sends what nghttp2's client does, its blocks encoded by python3-hpack and its
@@ -7,6 +8,8 @@ frames spelled by python3-hyperframe. The answers are spelled from RFC 9113, RFC
 HTTP/2.
 """
 import hashlib
+import pathlib
+import sys
 
 from h2.config import H2Configuration
 from h2.connection import H2Connection
@@ -126,6 +129,10 @@ def literal_of(content):
     return f'b"{shown}"'
 
 
+if len(sys.argv) > 1:
+    for name, content in zip(("calls.h2", "calls.answers"), h2_client()):
+        (pathlib.Path(sys.argv[1]) / name).write_bytes(content)
+    sys.exit()
 print("//! What clients send and are answered, by bench/connection_vectors.py.\n")
 for name, doc, (sent, answer) in [("H2", "python3-h2: three calls.", h2_client()),
                                   ("NGHTTP2", "What nghttp2's client sends: one call.", nghttp2_client())]:
