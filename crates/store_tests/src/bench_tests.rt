@@ -1,6 +1,6 @@
 //! Worked examples of a bench of three seats over the shelf in memory: each call of its door, by a table of steps.
 
-ghost use Rattle.std.specs.Prelude.{◌≡◌, ◌<◌, [], length, IfOk, OnOk};
+ghost use Rattle.std.specs.Prelude.{◌≡◌, ◌<◌, ◌≤◌, [], length, IfOk, OnOk};
 ghost use Rattle.blob_store.specs.Benched.{view_of};
 ghost use Rattle.blob_store.specs.View.{MayCall, own_now};
 
@@ -37,16 +37,11 @@ enum Act<'a> {
 }
 
 // Three seats at an empty store with these marks.
-fn three_seats(rt: &impl Abort, alloc: Global, low: u64, high: u64) -> Result<Bench<MemShelf>, Fail>
+fn three_seats(rt: &impl Abort, alloc: Global, marks: Marks) -> Result<Bench<MemShelf>, Fail>
     ensures { IfOk result (λ bench. length bench.seats ≡ 3) }
 {
-    assert!(rt; low <= high);
-    assert!(rt; high <= 1000);
-    let marks = Marks {
-        low,
-        high,
-        guard: Guard::Leases,
-    };
+    assert!(rt; marks.low <= marks.high);
+    assert!(rt; marks.high <= 1000);
     let store = Store::new(alloc, marks)?;
     Ok(Bench::new(alloc, store, 3)?)
 }
@@ -314,14 +309,26 @@ fn take_step(
     }
 }
 
+// These marks, where leases alone guard.
+fn leased(low: u64, high: u64) -> Marks
+    requires ordered { low ≤ high }
+    requires small { high ≤ 1000 }
+{
+    Marks {
+        low,
+        high,
+        guard: Guard::Leases,
+    }
+}
+
 // Takes each step in turn at a bench with these marks: at which seat, what is done, and what is answered.
 fn run(
     rt: &impl Abort,
     alloc: Global,
-    marks: (u64, u64),
+    marks: Marks,
     steps: &[(usize, Act, &str)],
 ) -> Result<(), Fail> {
-    let mut bench = three_seats(rt, alloc, marks.0, marks.1)?;
+    let mut bench = three_seats(rt, alloc, marks)?;
     let mut shelf = MemShelf::new(alloc, Vec::new(alloc), Vec::new(alloc), Vec::new(alloc));
     'steps: for (seat, does, due) in steps {
         assert!(rt; *seat < 3);
@@ -343,7 +350,7 @@ fn what_one_seat_puts_another_finds_and_reads(rt: HostRuntime) -> Result<(), Fai
         (2, Act::Read(b"abc"), "its bytes"),
         (2, Act::Read(b"abd"), "not there"),
     ];
-    run(&rt, rt.alloc(), (10, 20), &steps)
+    run(&rt, rt.alloc(), leased(10, 20), &steps)
 }
 
 #[test]
@@ -360,7 +367,7 @@ fn a_put_answers_by_what_is_there(rt: HostRuntime) -> Result<(), Fail> {
         (0, Act::Read(b"abc"), "its bytes"),
         (0, Act::Put(large), no_space),
     ];
-    run(&rt, rt.alloc(), (10, 20), &steps)
+    run(&rt, rt.alloc(), leased(10, 20), &steps)
 }
 
 #[test]
@@ -376,7 +383,7 @@ fn a_lease_of_one_seat_stands_against_the_passes_of_another(rt: HostRuntime) -> 
         (1, Act::Usage, "3 used, 3 guarded, 1 rows"),
         (1, Act::Find(b"de"), "missing"),
     ];
-    run(&rt, rt.alloc(), (0, 20), &steps)
+    run(&rt, rt.alloc(), leased(0, 20), &steps)
 }
 
 #[test]
@@ -394,7 +401,7 @@ fn an_owner_comes_and_goes_and_leaves_what_others_hold(rt: HostRuntime) -> Resul
         (1, Act::Visit(FOLDER), "wants 1"),
         (0, Act::Usage, "78 used, 3 guarded, 2 rows"),
     ];
-    run(&rt, rt.alloc(), (10, 100), &steps)
+    run(&rt, rt.alloc(), leased(10, 100), &steps)
 }
 
 #[test]
@@ -406,5 +413,27 @@ fn a_caller_of_any_door_calls_at_a_bench(rt: HostRuntime) -> Result<(), Fail> {
         (1, Act::LeasedRead(b"abd"), "false"),
         (0, Act::Usage, "3 used, 0 guarded, 1 rows"),
     ];
-    run(&rt, rt.alloc(), (10, 20), &steps)
+    run(&rt, rt.alloc(), leased(10, 20), &steps)
+}
+
+#[test]
+fn a_session_guards_what_its_seat_put(rt: HostRuntime) -> Result<(), Fail> {
+    let steps = [
+        (0, Act::Enter, "entered"),
+        (1, Act::Enter, "entered"),
+        (0, Act::Put(b"abcdef"), "Stored { removed: 0, used: 6 }"),
+        (1, Act::Pass, "0 removed, 6 used"),
+        (
+            1,
+            Act::Put(b"12345"),
+            "NoSpace { guarded: 6, size: 5, high: 10 }",
+        ),
+        (1, Act::Usage, "6 used, 6 guarded, 1 rows"),
+    ];
+    let marks = Marks {
+        low: 0,
+        high: 10,
+        guard: Guard::Session,
+    };
+    run(&rt, rt.alloc(), marks, &steps)
 }

@@ -1,3 +1,6 @@
+ghost use Rattle.std.specs.Prelude.{◌≡◌, ◌≤◌, ◌^◌, false, length};
+ghost use Rattle.digest_types.specs.Hasher.{added_len};
+
 use blob_store::{Checked, Filling, MemShelf, Reading, ReadingEnd, Shelf, ShelfEnd};
 use casd_base::Failed;
 use digest_types::{Digest, Digests};
@@ -210,6 +213,42 @@ fn the_saved_list_is_told_again_and_again(rt: HostRuntime) -> Result<(), Fail> {
     for _ in 0..2 {
         let told = shelf.saved().ok().ok_or("no list")?;
         assert_eq!(rt; told.as_slice(), &list[..]);
+    }
+    Ok(())
+}
+
+// How many bytes are held behind the first piece, and behind one byte more.
+fn held(
+    shelf: &mut MemShelf,
+    filling: &mut Filling<MemShelf>,
+    piece: &[u8],
+) -> Result<(u64, u64), ShelfEnd>
+    requires size { added_len filling.old.hasher ≡ 0 }
+    requires sound { filling.old.refused ≡ false }
+    requires piece { length piece.now ≤ 2 ^ 30 }
+{
+    filling.add(shelf, piece)?;
+    let before = filling.held();
+    filling.add(shelf, b"x")?;
+    Ok((before, filling.held()))
+}
+
+#[test]
+fn a_copy_is_held_of_what_may_be_a_directory(rt: HostRuntime) -> Result<(), Fail> {
+    let alloc = rt.alloc();
+    'sizes: for (size, wanted) in [
+        (4_194_303, (4_194_303, 4_194_304)),
+        (4_194_304, (4_194_304, 0)),
+    ] {
+        let mut shelf = mem_shelf(alloc, &[], &[], &[])?;
+        let mut filling = Filling::new(alloc, &mut shelf).ok().ok_or("no draft")?;
+        let held = held(
+            &mut shelf,
+            &mut filling,
+            vec![in alloc; 7u8; size]?.as_slice(),
+        );
+        filling.give_up(&mut shelf);
+        assert_eq!(rt; held.ok().ok_or("not added")?, wanted);
     }
     Ok(())
 }

@@ -18,13 +18,26 @@ enum Act<'a> {
     Damage(&'a [u8]),
     LeaseFile(&'a [u8]),
     Pass,
+    Usage,
+    Close,
 }
 
-// A store with these marks and a shelf on which the drafts of these numbers are spoilt.
+// A store with these marks and a shelf on which the drafts of these numbers are spoilt. Leases alone guard.
 fn empty(
     rt: &impl Abort,
     alloc: Global,
     marks: (u64, u64),
+    spoilt: &[u64],
+) -> Result<(Store<MemShelf>, MemShelf), Fail> {
+    guarding(rt, alloc, marks, Guard::Leases, spoilt)
+}
+
+// The same with this guard.
+fn guarding(
+    rt: &impl Abort,
+    alloc: Global,
+    marks: (u64, u64),
+    guard: Guard,
     spoilt: &[u64],
 ) -> Result<(Store<MemShelf>, MemShelf), Fail> {
     let (low, high) = marks;
@@ -36,11 +49,7 @@ fn empty(
         Vec::new(alloc),
         Vec::from_slice(alloc, spoilt)?,
     );
-    let marks = Marks {
-        low,
-        high,
-        guard: Guard::Leases,
-    };
+    let marks = Marks { low, high, guard };
     Ok((Store::new(alloc, marks)?, shelf))
 }
 
@@ -127,6 +136,8 @@ fn step(
             kind: Kind::File,
         },
         Act::Pass => Event::Pass,
+        Act::Usage => Event::Usage,
+        Act::Close => Event::Close,
     };
     ask(rt, store, shelf, owner, &event)
 }
@@ -350,4 +361,35 @@ fn the_empty_blob_is_there_without_a_body(rt: HostRuntime) -> Result<(), Fail> {
     run(&rt, rt.alloc(), &mut store, &mut shelf, &steps)?;
     assert_eq!(rt; store.usage().rows, 0);
     Ok(())
+}
+
+#[test]
+fn a_session_guards_what_it_put_until_its_owner_goes(rt: HostRuntime) -> Result<(), Fail> {
+    let (mut store, mut shelf) = guarding(&rt, rt.alloc(), (0, 10), Guard::Session, &[])?;
+    let steps = [
+        (0, Act::Open, "Opened { owner: 1 }"),
+        (0, Act::Open, "Opened { owner: 2 }"),
+        (1, Act::Put(b"abcdef"), "Stored { removed: 0, used: 6 }"),
+        (2, Act::Pass, "Passed { removed: 0, used: 6 }"),
+        (
+            2,
+            Act::Put(b"12345"),
+            "NoSpace { guarded: 6, size: 5, high: 10 }",
+        ),
+        (1, Act::Close, "Closed"),
+        (2, Act::Put(b"12345"), "Stored { removed: 1, used: 5 }"),
+        (
+            2,
+            Act::Usage,
+            "Used { usage: Usage { used: 5, guarded: 5, rows: 1, low: 0, high: 10 } }",
+        ),
+    ];
+    run(&rt, rt.alloc(), &mut store, &mut shelf, &steps)?;
+    let (mut store, mut shelf) = empty(&rt, rt.alloc(), (0, 10), &[])?;
+    let steps = [
+        (0, Act::Open, "Opened { owner: 1 }"),
+        (1, Act::Put(b"abcdef"), "Stored { removed: 0, used: 6 }"),
+        (1, Act::Pass, "Passed { removed: 1, used: 0 }"),
+    ];
+    run(&rt, rt.alloc(), &mut store, &mut shelf, &steps)
 }
