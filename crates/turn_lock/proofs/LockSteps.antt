@@ -568,7 +568,7 @@ module _ {T : Type 0} (stands : T → State) where
       let v : View = me.0 in
       let p : Point = r.point in
       let w : View = record v { told = [] } in
-      let part = total_within (λ u. u.left) s.views id v at in
+      let part = total_within (λ u. u.grant) s.views id v at in
       let mine = live s r id v 0 at (ap kind_of idle) (omega arith) in
       let owned : (o : ℕ) → v.owner ≡ Some o → IfSome v.owner (λ o. (o < next p) × (p.keeper o ≡ id) × (own o p.log ≡ v.mine)) → (o < next p) × (p.keeper o ≡ id) × (own o p.log ≡ v.mine) =
       λ o is h. subst (λ (x : Option ℕ). IfSome x (λ o. (o < next p) × (p.keeper o ≡ id) × (own o p.log ≡ v.mine))) is h in
@@ -606,7 +606,7 @@ module _ {T : Type 0} (stands : T → State) where
           begins = extends_shorter p.log v.seen v.told mine.seen mine.told no_longer;
           own = λ o before is begun own_before. own_between o before v.seen p.log v.mine begun mine.seen own_before (owned o is mine.owner).2;
           legal = legal_seen s r id v mine;
-          few = omega (arith, r.room, part);
+          few = omega (arith, r.grants, part);
         },
       )
 

@@ -13,10 +13,11 @@ module _ {T : Type 0} (stands : T → State) (m o n : Me (Option T) View) (unite
   view : n.0 ≡ record (both m.0 o.0) { told = [] }
   view = ap (λ (x : Me (Option T) View). x.0) united.me
 
-  pub joined_seat : (a b : ℕ) (number other : Option ℕ) → m.1 ≡ [] → IsSeat m a number → IsSeat o b other → IsSeat n (a + b) number
-  joined_seat a b number other bare into from = record {
+  pub joined_seat : (a b made taken : ℕ) (number other : Option ℕ) → m.1 ≡ [] → IsSeat m a made number → IsSeat o b taken other → IsSeat n (a + b) (made + taken) number
+  joined_seat a b made taken number other bare into from = record {
     carried = subst (λ (p : Phase). Carries p n.1) (sym (ap (λ (v : View). v.phase) view ∙ idle)) (ap (λ (x : Me (Option T) View). x.1) united.me ∙ bare);
     left = omega (arith, ap (λ (v : View). v.left) view, into.left, from.left);
+    made = omega (arith, ap (λ (v : View). v.made) view, into.made, from.made);
     owner = into.owner ∙ sym (ap (λ (v : View). v.owner) view);
     told = ap (λ (v : View). v.told) view;
     budget = omega (

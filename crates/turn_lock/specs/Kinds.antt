@@ -39,7 +39,7 @@ module _ {T : Type 0} (stands : T → State) where
     pub begins : Extends m.0.told m.0.seen
     pub own : (o : ℕ) (before : List Entry) → m.0.owner ≡ Some o → Extends before m.0.seen → own o before ≡ m.0.mine → own o m.0.seen ≡ m.0.mine
     pub legal : Legal n.0.start n.0.seen
-    pub few : n.0.left ≤ 2 ^ 63
+    pub few : n.0.grant ≤ 2 ^ 63
 
   -- ---- several steps
 
@@ -65,4 +65,4 @@ module _ {T : Type 0} (stands : T → State) where
     pub begins : Extends m.0.seen n.0.seen × Extends o.0.seen n.0.seen
     pub is_own : IsOwn n.0
     pub legal : Legal n.0.start n.0.seen
-    pub few : n.0.left ≤ 2 ^ 63
+    pub few : n.0.grant ≤ 2 ^ 63

@@ -116,12 +116,13 @@ Carries (HasTurn t) carried = carried ≡ (0, None) ∷ []
 Carries Gone carried = ⊥
 
 -- what holds of the parts of a seat
-pub record IsSeat {T : Type 0} (me : Me (Option T) View) (turns : ℕ) (number : Option ℕ) : Type 0 where
+pub record IsSeat {T : Type 0} (me : Me (Option T) View) (turns entries : ℕ) (number : Option ℕ) : Type 0 where
   pub carried : Carries me.0.phase me.1
   pub left : turns ≡ me.0.left
+  pub made : entries ≡ me.0.made
   pub owner : number ≡ me.0.owner
   pub told : me.0.told ≡ []
   pub budget : me.0.made + me.0.left + me.0.owed ≤ me.0.grant
-  pub few : me.0.left ≤ 2 ^ 63
+  pub few : me.0.grant ≤ 2 ^ 63
   pub legal : Legal me.0.start me.0.seen
   pub is_own : IsOwn me.0

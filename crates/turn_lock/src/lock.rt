@@ -83,6 +83,7 @@ impl<S: Stands> TurnLock<S> {
         Seat {
             raw,
             left: turns,
+            made: 0,
             owner: None,
         }
     }
@@ -110,6 +111,7 @@ impl<S: Stands> TurnLock<S> {
         let owner = author_of(seat.owner, event, reply).unwrap();
         self.enter::<Brand>(&mut seat.raw, owner, event, reply);
         self.put_back(&mut seat.raw, turn);
+        seat.made += 1;
         seat.owner = Some(owner);
     }
 
@@ -133,10 +135,12 @@ impl<S: Stands> TurnLock<S> {
         let Seat {
             raw,
             left,
+            made,
             owner: _,
         } = from;
         self.unite(&mut into.raw, raw);
         into.left += left;
+        into.made += made;
     }
 }
 
@@ -160,6 +164,7 @@ impl<S: Stands + Drop> TurnLock<S> {
                 Seat {
                     raw,
                     left: 1 << 63,
+                    made: 0,
                     owner: None,
                 },
             )),
@@ -184,6 +189,7 @@ impl<S: Stands + Drop> TurnLock<S> {
         let Seat {
             raw,
             left: _,
+            made: _,
             owner: _,
         } = seat;
         let mut closed = table.close_with(raw);

@@ -12,6 +12,7 @@ use std::marker::Model;
 pub struct Seat<S> {
     pub(crate) raw: TableSeat<S>,
     pub(crate) left: u64,
+    pub(crate) made: u64,
     pub(crate) owner: Option<u64>,
 }
 
@@ -22,7 +23,7 @@ impl<S> Model for Seat<S> {
 
     ghost view = { λ s. record { lock = s.raw.table_id; view = s.raw.me.0 } };
 
-    ghost invariant = { λ s. IsSeat s.raw.me s.left s.owner };
+    ghost invariant = { λ s. IsSeat s.raw.me s.left s.made s.owner };
 }
 
 impl<S> Seat<S> {
@@ -38,6 +39,13 @@ impl<S> Seat<S> {
         ensures own { IsOwn self.now.view }
     {
         self.left
+    }
+
+    /// How many entries it and the seats that it took in have made. It takes no memory and never waits.
+    pub fn made(&self) -> u64
+        ensures { result ≡ self.now.view.made }
+    {
+        self.made
     }
 
     /// Its owner, if it has had one. It takes no memory and never waits.

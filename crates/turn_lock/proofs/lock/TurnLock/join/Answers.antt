@@ -11,7 +11,7 @@ invariant_of-into g c =
     let o = c.from.inside.raw.me in
     let idle : m.0.phase ≡ Idle = ap (λ (h : AtLock). h.view.phase) c.into.view_is ∙ c.requires.idle.0 in
     let bare : m.1 ≡ [] = subst (λ (p : Phase). Carries p m.1) idle c.into.invariant.carried in
-    joined_seat g.S.Stands.state m o c.unite.new.into.me c.unite.ensures.united idle c.into.inside.left c.from.inside.left c.into.inside.owner c.from.inside.owner bare c.into.invariant c.from.invariant
+    joined_seat g.S.Stands.state m o c.unite.new.into.me c.unite.ensures.united idle c.into.inside.left c.from.inside.left c.into.inside.made c.from.inside.made c.into.inside.owner c.from.inside.owner bare c.into.invariant c.from.invariant
 
 pub returns : goal.returns
 returns g c =
