@@ -28,6 +28,9 @@ use std::marker::Model;
 use store_core::{Event, Reply, Standing, Usage};
 use turn_lock::Diary;
 
+/// How many entries a diary takes.
+const MOST_ENTRIES: u64 = 1 << 63;
+
 /// A store with its history and the seats at it, without a lock. It is the door of the seat that was chosen, and its calls
 /// never wait.
 #[derive(Drop)]
@@ -156,6 +159,10 @@ impl<K: Shelf> Door<K> for Bench<K> {
 
     fn left(&self) -> u64 {
         self.diary.left()
+    }
+
+    fn made(&self) -> u64 {
+        MOST_ENTRIES - self.diary.left()
     }
 
     fn enter(&mut self) -> Result<(), OutOfMemory> {

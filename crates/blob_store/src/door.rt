@@ -49,6 +49,10 @@ pub trait Door<K: Shelf> {
         // A seat that has entered has an owner, whose entries are its own.
         ensures seated { (view self.now).entered ≡ true → IsSeated (view self.now) };
 
+    /// How many entries its seat has made. It takes no memory and makes no entry.
+    fn made(&self) -> u64
+        ensures { result ≡ (view self.now).made };
+
     /// A new owner comes.
     fn enter(&mut self) -> Result<(), OutOfMemory>
         requires out { (view self.old).entered ≡ false }

@@ -198,6 +198,12 @@ impl<'a, K: Shelf, R: Wait, G: Gate> Door<K> for LockDoor<'a, K, R, G> {
         self.seat.left()
     }
 
+    fn made(&self) -> u64
+        ensures made { result ≡ self.now.view.made }
+    {
+        self.seat.made()
+    }
+
     fn enter(&mut self) -> Result<(), OutOfMemory>
         requires out { self.old.view.entered ≡ false }
         requires turn { 0 < self.old.view.left }
