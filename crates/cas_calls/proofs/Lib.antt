@@ -1,2 +1,3 @@
 pub mod TakeLaws
 pub mod UpdateLaws
+pub mod ReadLaws

@@ -11,7 +11,7 @@ use Rattle.blob_store.specs.Shelves.{Shelved, counting, discarding}
 use Rattle.store_core.specs.declared.state.Lease.{Lease}
 use Rattle.store_core.specs.History.{own_after}
 use Rattle.blob_store.proofs.ViewLaws.{turns_joined, turns_more, turns_none, own_now_after}
-use Rattle.cas_calls.specs.Script.{Script, End, Make, Room, Ask, Asked, Keep, Discard, Told, Did, Failed, and_then, Step, Made, Heard, Fit, Broke, Takes, after, Follows, made, failure, failures, discard, discards}
+use Rattle.cas_calls.specs.Script.{Script, End, Make, Room, Ask, Asked, Keep, Discard, Reader, Whole, Told, Did, Failed, Gave, and_then, Step, Made, Heard, Fit, Broke, Takes, after, Follows, made, failure, failures, discard, discards}
 use Rattle.cas_calls.specs.Plays.{IsIn, Shelves, Took, Leaves, Lapses}
 
 -- ---- steps one after the other
@@ -122,31 +122,34 @@ pub took_broke : {A : Type 0} (wanting s t : Script A) (v w : View) (x y : Shelv
 took_broke wanting s t v w x y n p = record { steps = Broke ∷ p.steps; follows = (tt, p.follows); entries = p.entries; shelf = record { faults = p.shelf.faults; later = p.shelf.later; may_fail = p.shelf.may_fail; sure = p.shelf.sure; discarded = p.shelf.discarded }; leases = p.leases }
 
 -- a call of the shelf that gives no body up, and then the rest
-pub took_kept : {A : Type 0} (bytes : List ℕ) (k : Told → Script A) (t : Script A) (v w : View) (x y z : Shelved) (n : ℕ) → Leaves x y → Took (k Did) v w y z n t → Took (Ask (Keep bytes) k) v w x z n t
-took_kept bytes k t v w x y z n leaves p = record {
-  steps = Heard (Keep bytes) Did ∷ p.steps;
+pub took_told : {A : Type 0} (asked : Asked) (told : Told) (k : Told → Script A) (t : Script A) (v w : View) (x y z : Shelved) (n : ℕ) → discard asked ≡ 0 → failure told ≡ 0 → Leaves x y → Took (k told) v w y z n t → Took (Ask asked k) v w x z n t
+took_told asked told k t v w x y z n keeps well leaves p = record {
+  steps = Heard asked told ∷ p.steps;
   follows = (refl, p.follows);
   entries = p.entries;
   shelf = record {
-    faults = omega (arith, p.shelf.faults, leaves.later);
+    faults = omega (arith, p.shelf.faults, leaves.later, well);
     later = omega (arith, p.shelf.later, leaves.later);
     may_fail = p.shelf.may_fail ∙ leaves.may_fail;
-    sure = λ h. omega (arith, p.shelf.sure (leaves.may_fail ∙ h));
-    discarded = p.shelf.discarded ∙ ap (λ (k : ℕ). counting (discards p.steps) k) leaves.discarded ∙ ap (λ (n : ℕ). counting n x.discarded) (plain (discards p.steps));
+    sure = λ h. omega (arith, p.shelf.sure (leaves.may_fail ∙ h), well);
+    discarded = p.shelf.discarded ∙ ap (λ (k : ℕ). counting (discards p.steps) k) leaves.discarded ∙ ap (λ (n : ℕ). counting n x.discarded) (plain (discard asked) (discards p.steps) keeps);
   };
   leases = p.leases;
 }
   where
-    plain : (n : ℕ) → n ≡ 0 + n
-    plain n = omega arith
+    plain : (m n : ℕ) → m ≡ 0 → n ≡ m + n
+    plain m n e = omega (arith, e)
+
+pub took_kept : {A : Type 0} (bytes : List ℕ) (k : Told → Script A) (t : Script A) (v w : View) (x y z : Shelved) (n : ℕ) → Leaves x y → Took (k Did) v w y z n t → Took (Ask (Keep bytes) k) v w x z n t
+took_kept bytes k t v w x y z n leaves p = took_told (Keep bytes) Did k t v w x y z n refl refl leaves p
 
 no_lapse : (x : Shelved) → x.may_fail ≡ true → x.may_fail ≡ false → ⊥
 no_lapse x p q = cc
 
 -- one that failed
-pub took_failed : {A : Type 0} (bytes : List ℕ) (k : Told → Script A) (v : View) (x y : Shelved) → IsIn v → Leaves x y → Lapses x y → Took (Ask (Keep bytes) k) v v x y 0 (k Failed)
-took_failed bytes k v x y h leaves lapses = record {
-  steps = Heard (Keep bytes) Failed ∷ [];
+pub took_lapsed : {A : Type 0} (asked : Asked) (k : Told → Script A) (v : View) (x y : Shelved) → discard asked ≡ 0 → IsIn v → Leaves x y → Lapses x y → Took (Ask asked k) v v x y 0 (k Failed)
+took_lapsed asked k v x y keeps h leaves lapses = record {
+  steps = Heard asked Failed ∷ [];
   follows = (refl, refl);
   entries = turns_none v h.seated.number h.is_in h.seated.owner h.seated.is_own;
   shelf = record {
@@ -154,10 +157,20 @@ took_failed bytes k v x y h leaves lapses = record {
     later = leaves.later;
     may_fail = leaves.may_fail;
     sure = λ q. absurd (no_lapse x lapses.0 q);
-    discarded = leaves.discarded;
+    discarded = leaves.discarded ∙ ap (λ (n : ℕ). counting n x.discarded) (plain (discard asked) keeps);
   };
   leases = refl;
 }
+  where
+    plain : (m : ℕ) → m ≡ 0 → 0 ≡ m + 0
+    plain m e = omega (arith, e)
+
+pub took_failed : {A : Type 0} (bytes : List ℕ) (k : Told → Script A) (v : View) (x y : Shelved) → IsIn v → Leaves x y → Lapses x y → Took (Ask (Keep bytes) k) v v x y 0 (k Failed)
+took_failed bytes k v x y h leaves lapses = took_lapsed (Keep bytes) k v x y refl h leaves lapses
+
+-- a turn without an entry
+pub took_waited : {A : Type 0} (s : Script A) (v w : View) (x : Shelved) → Waits v w → Took s v w x x 1 s
+took_waited s v w x waits = record { steps = []; follows = refl; entries = waits; shelf = shelves_none x; leases = own_now_after v w 1 [] waits }
 
 -- a call of the shelf that wanted memory
 pub took_wanting : {A : Type 0} (wanting s : Script A) (v : View) (x y : Shelved) → IsIn v → Leaves x y → Took (Room wanting s) v v x y 0 wanting

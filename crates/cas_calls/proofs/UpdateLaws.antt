@@ -27,8 +27,9 @@ use Rattle.blob_store.specs.View.{View, Makes, Waits}
 use Rattle.blob_store.specs.Shelves.{Shelved, discarding}
 use Rattle.cas_calls.specs.Script.{Script, End, Make, Room, Ask, Asked, Keep, Discard, Told, Did, Failed}
 use Rattle.cas_calls.specs.Plays.{IsIn, Took, Leaves, Lapses}
-use Rattle.cas_calls.specs.Statuses.{mismatch, put_status, store_fault, not_built}
-use Rattle.cas_calls.specs.Update.{Update, Answered, wanting, put_script, refuse_script, kept_script, item_script, items_script, answer_to, is_built, max_batch, update_script}
+use Rattle.cas_calls.specs.Statuses.{mismatch, put_status, store_fault, compressed, other_function, batch_too_large}
+use Rattle.cas_calls.specs.Limits.{max_batch, is_sha256, is_plain}
+use Rattle.cas_calls.specs.Update.{Update, Answered, wanting, put_script, refuse_script, kept_script, plain_script, item_script, items_script, answer_to, fits, update_script}
 use Rattle.cas_calls.proofs.TakeLaws.{took_none, took_joined, took_more, is_in_after, took_fit, took_broke, took_kept, took_failed, took_wanting, took_discarded, took_made, took_refused}
 
 -- ---- a put
@@ -70,29 +71,44 @@ kept_other item d v x y next other is h gone =
 
 -- ---- an item
 
-pub took_item : (item : Item) (v w : View) (x y z : Shelved) (t : Script Answered) (next : Status → Script Answered) → Leaves x y → Took (kept_script item next Did) v w y z 1 t → Took (item_script item next) v w x z 1 t
+pub took_item : (item : Item) (v w : View) (x y z : Shelved) (t : Script Answered) (next : Status → Script Answered) → Leaves x y → Took (kept_script item next Did) v w y z 1 t → Took (plain_script item next) v w x z 1 t
 took_item item v w x y z t next leaves took =
     took_fit wanting (Ask (Keep item.bytes) (kept_script item next)) t v w x z 1 (took_kept item.bytes (kept_script item next) t v w x y z 1 leaves took)
 
-pub failed_item : (item : Item) (v : View) (x y : Shelved) (next : Status → Script Answered) → IsIn v → Leaves x y → Lapses x y → Took (item_script item next) v v x y 1 (next store_fault)
+pub failed_item : (item : Item) (v : View) (x y : Shelved) (next : Status → Script Answered) → IsIn v → Leaves x y → Lapses x y → Took (plain_script item next) v v x y 1 (next store_fault)
 failed_item item v x y next h leaves lapses =
-    took_more (item_script item next) (next store_fault) v v x y 0 1 (omega arith)
+    took_more (plain_script item next) (next store_fault) v v x y 0 1 (omega arith)
     (took_fit wanting (Ask (Keep item.bytes) (kept_script item next)) (next store_fault) v v x y 0 (took_failed item.bytes (kept_script item next) v x y h leaves lapses))
 
-pub wanting_item : (item : Item) (v : View) (x y : Shelved) (next : Status → Script Answered) → IsIn v → Leaves x y → Took (item_script item next) v v x y 1 wanting
+pub wanting_item : (item : Item) (v : View) (x y : Shelved) (next : Status → Script Answered) → IsIn v → Leaves x y → Took (plain_script item next) v v x y 1 wanting
 wanting_item item v x y next h leaves =
-    took_more (item_script item next) wanting v v x y 0 1 (omega arith) (took_wanting wanting (Ask (Keep item.bytes) (kept_script item next)) v x y h leaves)
+    took_more (plain_script item next) wanting v v x y 0 1 (omega arith) (took_wanting wanting (Ask (Keep item.bytes) (kept_script item next)) v x y h leaves)
 
 -- by what was judged of its body
 pub ok_item : {J E : Type 0} (r : Result J E) (status : J → Status) (item : Item) (v w : View) (x y z : Shelved) → Leaves x y
-    → IfOk r (λ j. (next : Status → Script Answered) → Took (kept_script item next Did) v w y z 1 (next (status j))) → IfOk r (λ j. (next : Status → Script Answered) → Took (item_script item next) v w x z 1 (next (status j)))
+    → IfOk r (λ j. (next : Status → Script Answered) → Took (kept_script item next Did) v w y z 1 (next (status j))) → IfOk r (λ j. (next : Status → Script Answered) → Took (plain_script item next) v w x z 1 (next (status j)))
 ok_item (Ok j) status item v w x y z leaves took = λ next. took_item item v w x y z (next (status j)) next leaves (took next)
 ok_item (Err e) status item v w x y z leaves took = tt
 
 pub err_item : {J E : Type 0} (r : Result J E) (item : Item) (v w : View) (x y z : Shelved) → Leaves x y → OnErr r ((next : Status → Script Answered) → Took (kept_script item next Did) v w y z 1 wanting)
-    → OnErr r ((next : Status → Script Answered) → Took (item_script item next) v w x z 1 wanting)
+    → OnErr r ((next : Status → Script Answered) → Took (plain_script item next) v w x z 1 wanting)
 err_item (Ok j) item v w x y z leaves took = tt
 err_item (Err e) item v w x y z leaves took = λ next. took_item item v w x y z wanting next leaves (took next)
+
+-- an item without a compressor
+pub ok_plain : {J E : Type 0} (r : Result J E) (status : J → Status) (item : Item) (v w : View) (x y : Shelved) → is_plain item.compressor ≡ true
+    → IfOk r (λ j. (next : Status → Script Answered) → Took (plain_script item next) v w x y 1 (next (status j))) → IfOk r (λ j. (next : Status → Script Answered) → Took (item_script item next) v w x y 1 (next (status j)))
+ok_plain (Ok j) status item v w x y plain took = λ next. rw plain (took next)
+ok_plain (Err e) status item v w x y plain took = tt
+
+pub err_plain : {J E : Type 0} (r : Result J E) (item : Item) (v w : View) (x y : Shelved) → is_plain item.compressor ≡ true
+    → OnErr r ((next : Status → Script Answered) → Took (plain_script item next) v w x y 1 wanting) → OnErr r ((next : Status → Script Answered) → Took (item_script item next) v w x y 1 wanting)
+err_plain (Ok j) item v w x y plain took = tt
+err_plain (Err e) item v w x y plain took = λ next. rw plain (took next)
+
+-- one with a compressor
+pub compressed_item : (item : Item) (v : View) (x : Shelved) (next : Status → Script Answered) → is_plain item.compressor ≡ false → IsIn v → Took (item_script item next) v v x x 1 (next compressed)
+compressed_item item v x next other h = rw other (took_more (next compressed) (next compressed) v v x x 0 1 (omega arith) (took_none (next compressed) v x h))
 
 pub differ : (a b : HashAndSize) (t : Bool) → t ≡ not (same a b) → t ≡ true → a ≢ b
 differ a b t e h q = let s = same_from_equal a b q in cc
@@ -176,20 +192,25 @@ last_holds : (a b : Bool) → (a && b) ≡ true → b ≡ true
 last_holds true b h = h
 last_holds false b h = absurd cc
 
--- a request that is built has no item that is too large to be hashed
-pub built_small : (r : Update) → is_built r ≡ true → AllByRecursion (λ item. length item.bytes ≤ 2 ^ 60) r.items
-built_small r h =
-    let size = sum_by (λ (item : Item). length item.bytes) r.items in
-    let others = nat_le (cast_unsigned w32 r.digest_function) 1 && list_all (λ (item : Item). cast_unsigned w32 item.compressor == 0) r.items in
-    let within : size ≤ max_batch = leb-true size max_batch (last_holds others (nat_le size max_batch) h) in
-    each_smaller max_batch (2 ^ 60) r.items (omega arith) (each_small max_batch r.items within)
+-- a batch within the limit has no item that is too large to be hashed
+pub fits_small : (items : List Item) → fits items ≡ true → AllByRecursion (λ item. length item.bytes ≤ 2 ^ 60) items
+fits_small items h =
+    let size = sum_by (λ (item : Item). length item.bytes) items in
+    each_smaller max_batch (2 ^ 60) items (omega arith) (each_small max_batch items (leb-true size max_batch h))
 
 -- ---- the call
 
-pub took_update : (r : Update) (v w : View) (x y : Shelved) (n : ℕ) (t : Script Answered) → is_built r ≡ true → Took (items_script r.items []) v w x y n t → Took (update_script r) v w x y n t
+pub took_update : (r : Update) (v w : View) (x y : Shelved) (n : ℕ) (t : Script Answered) → is_sha256 r.digest_function ≡ true → fits r.items ≡ true → Took (items_script r.items []) v w x y n t → Took (update_script r) v w x y n t
 unfolding update_script
-took_update r v w x y n t built took = rw built took
+took_update r v w x y n t plain within took = rw (plain, within) took
 
-pub refused_update : (r : Update) (v : View) (x : Shelved) (n : ℕ) → is_built r ≡ false → IsIn v → Took (update_script r) v v x x n (End (Err not_built))
+refused : (status : Status) (v : View) (x : Shelved) (n : ℕ) → IsIn v → Took {A = Answered} (End (Err status)) v v x x n (End (Err status))
+refused status v x n h = took_more (End (Err status)) (End (Err status)) v v x x 0 n (omega arith) (took_none (End (Err status)) v x h)
+
+pub other_update : (r : Update) (v : View) (x : Shelved) (n : ℕ) → is_sha256 r.digest_function ≡ false → IsIn v → Took (update_script r) v v x x n (End (Err other_function))
 unfolding update_script
-refused_update r v x n built h = rw built (took_more (End (Err not_built)) (End (Err not_built)) v v x x 0 n (omega arith) (took_none (End (Err not_built)) v x h))
+other_update r v x n other h = rw other (refused other_function v x n h)
+
+pub large_update : (r : Update) (v : View) (x : Shelved) (n : ℕ) → is_sha256 r.digest_function ≡ true → fits r.items ≡ false → IsIn v → Took (update_script r) v v x x n (End (Err batch_too_large))
+unfolding update_script
+large_update r v x n plain large h = rw (plain, large) (refused batch_too_large v x n h)

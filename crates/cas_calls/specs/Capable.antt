@@ -3,7 +3,7 @@ use Rattle.std.specs.Prelude.{pos, ℕ, List, ◌∷◌, []}
 use Rattle.cas_messages.specs.Table.{Value, ◌&◌}
 use Rattle.cas_messages.specs.Spelling.{spelled}
 use Rattle.cas_messages.specs.Tables.{server_capabilities}
-use Rattle.cas_calls.specs.Update.{max_batch}
+use Rattle.cas_calls.specs.Limits.{max_batch}
 
 -- SHA-256; batches of at most so many bytes of data; absolute targets of symbolic links are allowed; versions 2.0 to 2.3
 abbrev pub capable : Value server_capabilities

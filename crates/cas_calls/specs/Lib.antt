@@ -1,7 +1,11 @@
 pub mod Script
 pub mod Plays
 pub mod Statuses
+pub mod Limits
 pub mod Update
 pub mod Judged
+pub mod Find
+pub mod BatchRead
+pub mod Served
 pub mod Capable
 pub mod Runs

@@ -1,4 +1,4 @@
--- A script that is run alone on a store, with memory at hand and a shelf that doesn't fail.
+-- A script that reads no body, run alone on a store, with memory at hand and a shelf that doesn't fail.
 use Rattle.std.specs.Prelude.{◌≡◌, ℕ, List, [], ◌∷◌}
 use Rattle.store_core.specs.State.{State}
 use Rattle.store_core.specs.Step.{step}

@@ -1,18 +1,28 @@
 -- The script of a call: what it does next, and then what, by what comes.
 use Rattle.std.specs.Prelude.{◌≡◌, ◌+◌, ◌^◌, ◌≤◌, min, ℕ, false, List, [], ◌∷◌, Result, Ok}
+use Rattle.digest_types.specs.Name.{HashAndSize}
 use Rattle.store_core.specs.declared.event.Event.{Event}
 use Rattle.store_core.specs.declared.event.Reply.{Reply}
 use Rattle.blob_store.specs.Applied.{gives_up}
 
--- What is asked of the shelf: to take these bytes as a body, or to give a body up.
+-- What is asked of the shelf: to take these bytes as a body; to give a body up; to begin to read the body of this digest; or to
+-- read that body, up to one byte more than the digest says.
 pub data Asked : Type 0 where
   Keep : List ℕ → Asked
   Discard : Asked
+  Reader : HashAndSize → Asked
+  Whole : HashAndSize → Asked
 
--- it did so, or it failed
+-- it did so, it failed, or it gave these bytes
 pub data Told : Type 0 where
   Did : Told
   Failed : Told
+  Gave : List ℕ → Told
+
+-- the bytes that it gave
+abbrev pub given : Told → List ℕ
+given (Gave bytes) = bytes
+given _ = []
 
 -- What a call does, in order: it ends with an answer; it makes an entry, and goes on by the reply; it needs memory, and goes on
 -- by the first part where it is wanting; or it asks something of the shelf, and goes on by what it is told.
@@ -67,8 +77,8 @@ made (Broke ∷ xs) = made xs
 
 -- how often the shelf failed
 abbrev pub failure : Told → ℕ
-failure Did = 0
 failure Failed = 1
+failure _ = 0
 
 abbrev pub failures : List Step → ℕ
 failures [] = 0
@@ -79,8 +89,8 @@ failures (Broke ∷ xs) = failures xs
 
 -- how many bodies were given up: those of rows that went, those of puts that weren't kept, and those that the call gave up
 abbrev pub discard : Asked → ℕ
-discard (Keep bytes) = 0
 discard Discard = 1
+discard _ = 0
 
 abbrev pub discards : List Step → ℕ
 discards [] = 0

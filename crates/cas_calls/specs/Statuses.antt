@@ -28,6 +28,16 @@ many_messages = record { code = code.InvalidArgument; text = codes "more than on
 abbrev pub not_built : Status
 not_built = record { code = code.Unimplemented; text = codes "not built" }
 
+-- another digest function than SHA-256 is named
+abbrev pub other_function : Status
+other_function = record { code = code.Unimplemented; text = codes "digest function" }
+
+abbrev pub compressed : Status
+compressed = record { code = code.Unimplemented; text = codes "compressor" }
+
+abbrev pub batch_too_large : Status
+batch_too_large = record { code = code.InvalidArgument; text = codes "batch too large" }
+
 abbrev pub out_of_memory : Status
 out_of_memory = record { code = code.Aborted; text = codes "out of memory" }
 
@@ -45,6 +55,17 @@ fault_status faults.OutOfMemory = out_of_memory
 abbrev pub mismatch : HashAndSize → HashAndSize → Status
 mismatch want got = record {
   code = code.InvalidArgument;
+  text = codes "want " ++ (printed want ++ (codes ", got " ++ printed got));
+}
+
+-- there is no sound blob of this digest
+abbrev pub not_here : HashAndSize → Status
+not_here d = record { code = code.NotFound; text = codes "not here " ++ printed d }
+
+-- the bytes of a body have another digest than its own
+abbrev pub damaged : HashAndSize → HashAndSize → Status
+damaged want got = record {
+  code = code.DataLoss;
   text = codes "want " ++ (printed want ++ (codes ", got " ++ printed got));
 }
 

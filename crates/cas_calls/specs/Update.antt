@@ -1,7 +1,6 @@
 -- BatchUpdateBlobs (Remote Execution API v2): what it takes of a request, its script, and its response.
-use Rattle.std.specs.Prelude.{◌==◌, ◌&&◌, nat_le, map, ℕ, ℤ, Bool, List, [], ◌∷◌, ◌++◌, length, Result, Ok, Err, if◌then◌else◌}
-use Rattle.std.specs.Int.{w32, cast_unsigned}
-use Rattle.std.specs.List.{list_all, sum_by}
+use Rattle.std.specs.Prelude.{nat_le, map, ℕ, ℤ, Bool, List, [], ◌∷◌, ◌++◌, length, Result, Ok, Err, if◌then◌else◌}
+use Rattle.std.specs.List.{sum_by}
 use Rattle.digest_types.specs.Digest.{digest_of}
 use Rattle.directory_canon.specs.Links.{links}
 use Rattle.cas_messages.specs.Table.{Value, ◌&◌}
@@ -17,8 +16,9 @@ use Rattle.casd_base.specs.declared.status.Status.{Status}
 use Rattle.store_core.specs.State.{same}
 use Rattle.store_core.specs.declared.event.Event.TheVariants as events
 use Rattle.store_core.specs.declared.event.Reply.{Reply}
-use Rattle.cas_calls.specs.Script.{Script, End, Make, Room, Ask, Keep, Discard, Told, Did, Failed}
-use Rattle.cas_calls.specs.Statuses.{rpc_of, not_built, out_of_memory, store_fault, mismatch, put_status}
+use Rattle.cas_calls.specs.Limits.{max_batch, is_sha256, is_plain, read_as}
+use Rattle.cas_calls.specs.Script.{Script, End, Make, Room, Ask, Keep, Discard, Told, Failed}
+use Rattle.cas_calls.specs.Statuses.{rpc_of, out_of_memory, store_fault, mismatch, put_status, other_function, batch_too_large, compressed}
 
 -- what the call takes of a request: its items and its digest function
 pub record Update : Type 0 where
@@ -37,14 +37,9 @@ update_of v = record { items = map item_of v.1.0; digest_function = v.1.1.0 }
 abbrev pub update_view : BatchUpdateBlobsRequest → Update
 update_view r = record { items = r.requests; digest_function = r.digest_function }
 
--- a request that was read or not
-abbrev pub update_by : Result (Value batch_update_blobs_request) MessageError → Result Update MessageError
-update_by (Ok v) = Ok (update_of v)
-update_by (Err e) = Err e
-
 -- the request that a message spells
 unfoldable pub update_in : List ℕ → Result Update MessageError
-update_in message = update_by (message_in batch_update_blobs_request message)
+update_in message = read_as update_of (message_in batch_update_blobs_request message)
 
 -- an answer by the values of its fields
 abbrev pub answer_value : Answer → Value batch_update_blobs_response_item1
@@ -54,16 +49,9 @@ answer_value a = a.digest & (a.status.code & a.status.message & tt) & tt
 abbrev pub response_spelled : List Answer → List ℕ
 response_spelled answers = spelled batch_update_blobs_response (map answer_value answers & tt)
 
--- how many bytes of data a request has at most
-abbrev pub max_batch : ℕ
-max_batch = 3_670_016
-
--- whether the request is one that is built: SHA-256 or no digest function named, no compressor, and data within the
--- limit
-abbrev pub is_built : Update → Bool
-is_built r =
-    nat_le (cast_unsigned w32 r.digest_function) 1 && list_all (λ item. cast_unsigned w32 item.compressor == 0) r.items
-    && nat_le (sum_by (λ item. length item.bytes) r.items) max_batch
+-- whether the data of a request is within the limit
+abbrev pub fits : List Item → Bool
+fits items = nat_le (sum_by (λ item. length item.bytes) items) max_batch
 
 -- what the call answers: an answer to each item, or a status for all
 abbrev pub Answered : Type 0
@@ -88,12 +76,16 @@ refuse_script item next = Ask Discard (λ told. next (mismatch item.digest (dige
 
 -- what is done with the bytes of an item that the shelf took
 abbrev pub kept_script : Item → (Status → Script Answered) → Told → Script Answered
-kept_script item next Did = if same item.digest (digest_of item.bytes) then put_script item next else refuse_script item next
 kept_script item next Failed = next store_fault
+kept_script item next told = if same item.digest (digest_of item.bytes) then put_script item next else refuse_script item next
+
+-- the bytes of an item are brought to the shelf
+abbrev pub plain_script : Item → (Status → Script Answered) → Script Answered
+plain_script item next = Room wanting (Ask (Keep item.bytes) (kept_script item next))
 
 -- one item, and what follows by its status
 abbrev pub item_script : Item → (Status → Script Answered) → Script Answered
-item_script item next = Room wanting (Ask (Keep item.bytes) (kept_script item next))
+item_script item next = if is_plain item.compressor then plain_script item next else next compressed
 
 -- the answer to an item
 abbrev pub answer_to : Item → Status → Answer
@@ -106,4 +98,4 @@ items_script (item ∷ items) answers = item_script item (λ status. Room wantin
 
 -- the script of the call
 unfoldable pub update_script : Update → Script Answered
-update_script r = if is_built r then items_script r.items [] else End (Err not_built)
+update_script r = if is_sha256 r.digest_function then (if fits r.items then items_script r.items [] else End (Err batch_too_large)) else End (Err other_function)

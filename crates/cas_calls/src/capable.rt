@@ -5,6 +5,7 @@ ghost use Rattle.cas_messages.specs.Table.{Value};
 ghost use Rattle.cas_calls.specs.Capable.{capable};
 ghost use Rattle.cas_calls.specs.Statuses.{out_of_memory};
 
+use crate::limits::MAX_BATCH;
 use crate::status::out_of_memory;
 use cas_messages::{
     CacheCapabilities, GetCapabilitiesRequest, Message, SemVer, ServerCapabilities,
@@ -18,9 +19,6 @@ const SHA256: i32 = 1;
 
 /// ALLOWED of the enum SymlinkAbsolutePathStrategy.
 const ALLOWED: i32 = 2;
-
-/// How many bytes of data a batch has at most.
-const MAX_BATCH: i64 = 3_670_016;
 
 /// What the server supports, which no request changes. It is refused with ABORTED where memory is wanting.
 pub fn capabilities(
@@ -37,7 +35,7 @@ pub fn capabilities(
     Ok(ServerCapabilities {
         cache_capabilities: CacheCapabilities {
             digest_functions: Listed::from_vec(digest_functions),
-            max_batch_total_size_bytes: MAX_BATCH,
+            max_batch_total_size_bytes: MAX_BATCH as i64,
             symlink_absolute_path_strategy: ALLOWED,
         },
         low_api_version: SemVer {

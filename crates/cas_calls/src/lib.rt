@@ -4,11 +4,17 @@
 #![tactic(auto)]
 
 mod capable;
+mod find;
 mod keep;
+mod limits;
 mod put;
+mod read;
+mod served;
 mod status;
 mod update;
 
 pub use capable::capabilities;
+pub use find::find_missing;
+pub use read::batch_read;
 pub use status::{fault_status, many_messages, no_message, not_built, out_of_memory};
 pub use update::batch_update;

@@ -9,10 +9,11 @@ ghost use Rattle.cas_calls.specs.Script.{Script, Did};
 ghost use Rattle.cas_calls.specs.Judged.{status_of};
 ghost use Rattle.cas_calls.specs.Plays.{IsIn, Took};
 ghost use Rattle.cas_calls.specs.Statuses.{put_status as put_status_of};
-ghost use Rattle.cas_calls.specs.Update.{Answered, wanting, put_script, kept_script, item_script};
+ghost use Rattle.cas_calls.specs.Update.{Answered, wanting, put_script, kept_script, plain_script, item_script};
 
 use crate::keep::keep;
-use crate::status::{mismatch, put_status, store_fault};
+use crate::limits::is_plain;
+use crate::status::{compressed, mismatch, put_status, store_fault};
 use blob_store::{Checked, Door, PutReply, Shelf, ShelfEnd};
 use cas_messages::BatchUpdateBlobsRequestItem2;
 use casd_base::Status;
@@ -29,6 +30,8 @@ pub(crate) enum Judged {
     Other(Digest),
     /// The shelf failed.
     Failed,
+    /// They come with a compressor.
+    Compressed,
 }
 
 /// Puts a body under the digest that its item declares.
@@ -71,6 +74,26 @@ fn judge<K: Shelf, D: Door<K>>(
 }
 
 /// Brings the bytes of an item to the shelf, and puts them if they have the declared digest.
+fn put_plain<K: Shelf, D: Door<K>>(
+    alloc: Global,
+    door: &mut D,
+    shelf: &mut K,
+    item: &BatchUpdateBlobsRequestItem2,
+) -> Result<Judged, OutOfMemory>
+    requires is_in { IsIn (D.view door.old) }
+    requires turn { 0 < (D.view door.old).left }
+    requires small { length item.now.bytes ≤ 2 ^ 60 }
+    ensures ok { IfOk result (λ j. (next : AStatus → Script Answered) → Took (plain_script item.now next) (D.view door.old) (D.view door.new) (K.shelved shelf.old) (K.shelved shelf.new) 1 (next (status_of item.now j))) }
+    ensures err { OnErr result ((next : AStatus → Script Answered) → Took (plain_script item.now next) (D.view door.old) (D.view door.new) (K.shelved shelf.old) (K.shelved shelf.new) 1 wanting) }
+{
+    match keep(alloc, shelf, item.bytes.as_slice()) {
+        Ok(blob) => judge(door, shelf, blob, item),
+        Err(ShelfEnd::Failed) => Ok(Judged::Failed),
+        Err(ShelfEnd::OutOfMemory) => Err(OutOfMemory),
+    }
+}
+
+/// Puts the bytes of an item that have the declared digest and no compressor.
 pub(crate) fn put_item<K: Shelf, D: Door<K>>(
     alloc: Global,
     door: &mut D,
@@ -83,11 +106,10 @@ pub(crate) fn put_item<K: Shelf, D: Door<K>>(
     ensures ok { IfOk result (λ j. (next : AStatus → Script Answered) → Took (item_script item.now next) (D.view door.old) (D.view door.new) (K.shelved shelf.old) (K.shelved shelf.new) 1 (next (status_of item.now j))) }
     ensures err { OnErr result ((next : AStatus → Script Answered) → Took (item_script item.now next) (D.view door.old) (D.view door.new) (K.shelved shelf.old) (K.shelved shelf.new) 1 wanting) }
 {
-    match keep(alloc, shelf, item.bytes.as_slice()) {
-        Ok(blob) => judge(door, shelf, blob, item),
-        Err(ShelfEnd::Failed) => Ok(Judged::Failed),
-        Err(ShelfEnd::OutOfMemory) => Err(OutOfMemory),
+    if !is_plain(&item.compressor) {
+        return Ok(Judged::Compressed);
     }
+    put_plain(alloc, door, shelf, item)
 }
 
 /// The status of an item.
@@ -102,5 +124,6 @@ pub(crate) fn status_of(
         Judged::Put(reply) => put_status(alloc, reply),
         Judged::Other(got) => mismatch(alloc, &item.digest, got),
         Judged::Failed => Ok(store_fault()),
+        Judged::Compressed => Ok(compressed()),
     }
 }

@@ -1,8 +1,9 @@
 //! The statuses that calls answer.
 
-ghost use Rattle.std.specs.Prelude.{◌≡◌, ◌≤◌, length, IfOk};
+ghost use Rattle.std.specs.Prelude.{◌≡◌, ◌≤◌, ◌++◌, codes, length, IfOk};
+ghost use Rattle.digest_types.specs.Digest.{printed};
 ghost use Rattle.blob_store.specs.Calls.{put_reply};
-ghost use Rattle.cas_calls.specs.Statuses.{rpc_of, fine, no_message, many_messages, not_built, out_of_memory, store_fault, fault_status, mismatch, put_status};
+ghost use Rattle.cas_calls.specs.Statuses.{rpc_of, fine, no_message, many_messages, not_built, other_function, compressed, batch_too_large, out_of_memory, store_fault, fault_status, mismatch, not_here, damaged, put_status};
 
 use blob_store::PutReply;
 use cas_messages::{MessageError, RpcStatus};
@@ -42,6 +43,37 @@ pub fn not_built() -> Status
     short(Code::Unimplemented, "not built")
 }
 
+/// Another digest function than SHA-256 is named.
+pub(crate) fn other_function() -> Status
+    ensures { result ≡ other_function }
+{
+    short(Code::Unimplemented, "digest function")
+}
+
+/// Data comes with a compressor.
+pub(crate) fn compressed() -> Status
+    ensures { result ≡ compressed }
+{
+    short(Code::Unimplemented, "compressor")
+}
+
+/// The data of a batch passes its limit.
+pub(crate) fn batch_too_large() -> Status
+    ensures { result ≡ batch_too_large }
+{
+    short(Code::InvalidArgument, "batch too large")
+}
+
+/// All went well.
+pub(crate) fn fine() -> Status
+    ensures { result ≡ fine }
+{
+    Status {
+        code: Code::Ok,
+        text: Text::empty(),
+    }
+}
+
 /// Memory was wanting.
 pub fn out_of_memory() -> Status
     ensures { result ≡ out_of_memory }
@@ -69,9 +101,9 @@ pub fn fault_status(fault: &MessageError) -> Status
     }
 }
 
-/// The status of bytes that have another digest than the declared one.
-pub(crate) fn mismatch(alloc: Global, want: &Digest, got: &Digest) -> Result<Status, OutOfMemory>
-    ensures { IfOk result (λ s. s ≡ mismatch want.now got.now) }
+/// Both digests, where bytes have another one than their own.
+fn differing(alloc: Global, want: &Digest, got: &Digest) -> Result<Text, OutOfMemory>
+    ensures { IfOk result (λ t. t ≡ codes "want " ++ (printed want.now ++ (codes ", got " ++ printed got.now))) }
 {
     let want = want.print(alloc)?;
     let got = got.print(alloc)?;
@@ -80,8 +112,39 @@ pub(crate) fn mismatch(alloc: Global, want: &Digest, got: &Digest) -> Result<Sta
     text.push_str(want.as_str())?;
     text.push_str(", got ")?;
     text.push_str(got.as_str())?;
+    Ok(Text::from_string(text))
+}
+
+/// The status of bytes that have another digest than the declared one.
+pub(crate) fn mismatch(alloc: Global, want: &Digest, got: &Digest) -> Result<Status, OutOfMemory>
+    ensures { IfOk result (λ s. s ≡ mismatch want.now got.now) }
+{
     Ok(Status {
         code: Code::InvalidArgument,
+        text: differing(alloc, want, got)?,
+    })
+}
+
+/// The status of a body whose bytes have another digest than its own.
+pub(crate) fn damaged(alloc: Global, want: &Digest, got: &Digest) -> Result<Status, OutOfMemory>
+    ensures { IfOk result (λ s. s ≡ damaged want.now got.now) }
+{
+    Ok(Status {
+        code: Code::DataLoss,
+        text: differing(alloc, want, got)?,
+    })
+}
+
+/// There is no sound blob of a digest.
+pub(crate) fn not_here(alloc: Global, digest: &Digest) -> Result<Status, OutOfMemory>
+    ensures { IfOk result (λ s. s ≡ not_here digest.now) }
+{
+    let digest = digest.print(alloc)?;
+    let mut text = String::new(alloc);
+    text.push_str("not here ")?;
+    text.push_str(digest.as_str())?;
+    Ok(Status {
+        code: Code::NotFound,
         text: Text::from_string(text),
     })
 }
@@ -92,10 +155,7 @@ pub(crate) fn put_status(alloc: Global, answer: &PutReply) -> Result<Status, Out
     ensures { IfOk result (λ s. s ≡ put_status (put_reply answer.now)) }
 {
     match answer {
-        PutReply::Stored { .. } | PutReply::Present | PutReply::Repaired => Ok(Status {
-            code: Code::Ok,
-            text: Text::empty(),
-        }),
+        PutReply::Stored { .. } | PutReply::Present | PutReply::Repaired => Ok(fine()),
         PutReply::NoSpace {
             guarded,
             size,

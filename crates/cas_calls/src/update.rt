@@ -4,10 +4,11 @@ ghost use Rattle.std.specs.Prelude.{◌≡◌, ◌≤◌, ◌<◌, ◌+◌, ◌*
 ghost use Rattle.std.specs.List.{AllByRecursion};
 ghost use Rattle.cas_calls.specs.Plays.{IsIn, Took, Plays};
 ghost use Rattle.cas_calls.specs.Script.{End};
-ghost use Rattle.cas_calls.specs.Update.{is_built, update_view, update_script, items_script, wanting, answered};
+ghost use Rattle.cas_calls.specs.Update.{fits, update_view, update_script, items_script, wanting, answered};
 
+use crate::limits::{MAX_BATCH, is_sha256};
 use crate::put::{put_item, status_of};
-use crate::status::{not_built, out_of_memory, rpc_status};
+use crate::status::{batch_too_large, other_function, out_of_memory, rpc_status};
 use blob_store::{Door, Shelf};
 use cas_messages::{
     BatchUpdateBlobsRequest, BatchUpdateBlobsRequestItem2, BatchUpdateBlobsResponse,
@@ -17,24 +18,19 @@ use casd_base::Status;
 use proto_wire::{Listed, OutOfMemory};
 use std::alloc::Global;
 
-/// How many bytes of data a request has at most.
-const MAX_BATCH: u64 = 3_670_016;
-
-fn is_built(request: &BatchUpdateBlobsRequest) -> bool
-    ensures { result ≡ is_built (update_view request.now) }
+/// Whether the data of a request is within the limit.
+fn fits(items: &[BatchUpdateBlobsRequestItem2]) -> bool
+    ensures { result ≡ fits items.now }
 {
     let mut size = 0;
-    for item in request.requests.as_slice() {
-        if item.compressor.cast_unsigned() != 0 {
-            return false;
-        }
+    for item in items {
         let len = item.bytes.len() as u64;
         if len > MAX_BATCH - size {
             return false;
         }
         size += len;
     }
-    request.digest_function.cast_unsigned() <= 1
+    true
 }
 
 fn put_items<K: Shelf, D: Door<K>>(
@@ -63,9 +59,10 @@ fn put_items<K: Shelf, D: Door<K>>(
 
 /// Puts each blob of a request whose bytes have its digest. Every blob has a status of its own in the response, in the order of
 /// the request: OK; INVALID_ARGUMENT with both digests where they differ; RESOURCE_EXHAUSTED with the guarded bytes, its size
-/// and the high mark where there is no space; INTERNAL where the shelf failed. The call is refused with UNIMPLEMENTED, before
-/// any entry, for another digest function than SHA-256, a compressor, or more than 3,670,016 bytes of data, and with ABORTED
-/// where memory is wanting; some of the blobs may have been put then.
+/// and the high mark where there is no space; UNIMPLEMENTED where it comes with a compressor; INTERNAL where the shelf failed.
+/// The call is refused, before any entry, with UNIMPLEMENTED for another digest function than SHA-256, and with
+/// INVALID_ARGUMENT for more than 3,670,016 bytes of data; and with ABORTED where memory is wanting: some of the blobs may have
+/// been put then.
 ///
 /// The door is entered, and may take 2^22 turns and four for each blob.
 pub fn batch_update<K: Shelf, D: Door<K>>(
@@ -80,8 +77,11 @@ pub fn batch_update<K: Shelf, D: Door<K>>(
     ensures short { IfErr result (λ status. length status.text ≤ 32) }
 {
     let _turns = door.left();
-    if !is_built(request) {
-        return Err(not_built());
+    if !is_sha256(&request.digest_function) {
+        return Err(other_function());
+    }
+    if !fits(request.requests.as_slice()) {
+        return Err(batch_too_large());
     }
     match put_items(alloc, door, shelf, request.requests.as_slice()) {
         Ok(answers) => Ok(BatchUpdateBlobsResponse {

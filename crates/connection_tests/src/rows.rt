@@ -1,5 +1,6 @@
 //! Connections by a table: what comes in, what is written, and how it ends.
 
+use crate::calls::CALLS;
 use crate::clients::*;
 use crate::served::{Peer, joined, serve};
 use crate::wire::*;
@@ -115,6 +116,23 @@ fn connections_are_served_as_the_table_says(rt: HostRuntime) -> Result<(), Fail>
         );
         assert_eq!(rt; served.report.written, wanted.len() as u64, "{name}");
         assert_eq!(rt; served.usage.used, used, "{name}");
+    }
+    Ok(())
+}
+
+#[test]
+fn calls_on_many_blobs_are_answered_as_the_table_says(rt: HostRuntime) -> Result<(), Fail> {
+    let alloc = rt.alloc();
+    'calls: for &(name, has_changed, input, output) in CALLS {
+        let spoilt: &[u64] = if has_changed { &[0] } else { &[] };
+        let pieces = [input];
+        let peer = Peer {
+            spoilt,
+            ..Peer::sending(&pieces)
+        };
+        let served = serve(&rt, alloc, peer)?;
+        assert_eq!(rt; served.written.as_slice(), output, "{name}");
+        assert_eq!(rt; served.report.end, ConnEnd::Done, "{name}");
     }
     Ok(())
 }

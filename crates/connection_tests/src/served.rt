@@ -20,6 +20,8 @@ pub(crate) struct Peer<'a> {
     pub link_faults: &'a [u64],
     /// Which calls of the shelf fail.
     pub shelf_faults: &'a [u64],
+    /// Which drafts of the shelf become bodies that change.
+    pub spoilt: &'a [u64],
     /// The high mark.
     pub high: u64,
 }
@@ -32,6 +34,7 @@ impl<'a> Peer<'a> {
             cuts: &[],
             link_faults: &[],
             shelf_faults: &[],
+            spoilt: &[],
             high: 1000,
         }
     }
@@ -69,7 +72,8 @@ fn one_seat(rt: &impl Abort, alloc: Global, high: u64) -> Result<Bench<MemShelf>
 pub(crate) fn serve(rt: &impl Abort, alloc: Global, peer: Peer<'_>) -> Result<Served, Fail> {
     let mut bench = one_seat(rt, alloc, peer.high)?;
     let faults = Vec::from_slice(alloc, peer.shelf_faults)?;
-    let mut shelf = MemShelf::new(alloc, Vec::new(alloc), faults, Vec::new(alloc));
+    let spoilt = Vec::from_slice(alloc, peer.spoilt)?;
+    let mut shelf = MemShelf::new(alloc, Vec::new(alloc), faults, spoilt);
     let cuts = Vec::from_slice(alloc, peer.cuts)?;
     let faults = Vec::from_slice(alloc, peer.link_faults)?;
     let mut link = MemLink::new(alloc, joined(alloc, peer.input)?, cuts, faults);

@@ -12,12 +12,11 @@ use Rattle.blob_store.specs.Shelves.{Shelved}
 use Rattle.cas_calls.specs.Script.{Script, End, Room, and_then}
 use Rattle.cas_calls.specs.Plays.{IsIn, Plays, Took}
 use Rattle.cas_calls.specs.Statuses.{fault_status, out_of_memory, fine}
-use Rattle.cas_calls.specs.Update.{Update, Answered, update_script, response_spelled}
 use Rattle.cas_calls.proofs.TakeLaws.{took_none, took_joined, took_more, took_fit, took_broke, took_then, is_in_after}
 use Rattle.live_calls.specs.declared.outcome.Outcome.{Outcome}
 use Rattle.live_calls.specs.declared.outcome.Outcome.TheVariants as outcomes
 use Rattle.cas_calls.specs.Capable.{capabilities_spelled}
-use Rattle.live_calls.specs.Turns.{Turn, wanting, refused, replied, capable_by, updated, update_by, Ends}
+use Rattle.live_calls.specs.Turns.{Turn, wanting, refused, replied, capable_by, Ends}
 use Rattle.live_calls.specs.Replied.{replied_by}
 
 -- a turn that is at its end
@@ -75,11 +74,10 @@ plays_wanting t outcome told v x n h is same =
 pub ends_as : (o outcome : Outcome) → outcome ≡ o → Ends (End o) outcome
 ends_as o outcome is = subst (λ (q : Outcome). Ends (End o) q) (sym is) (ends_now o)
 
--- a batch was updated, and what follows was done
-pub plays_updated : (r : Update) (answer : Answered) (outcome : Outcome) (v w : View) (x y : Shelved) (n m : ℕ) → n ≤ m → Plays (update_script r) v w x y n answer → Ends (updated answer) outcome
-    → Plays (Room wanting (update_by (Ok r))) v w x y m outcome
-plays_updated r answer outcome v w x y n m le plays e =
-    let h : IsIn w = is_in_after (update_script r) (End answer) v w x y n plays in
-    let all : Plays (and_then (update_script r) updated) v w x y (n + 0) outcome =
-    took_joined (and_then (update_script r) updated) (updated answer) (End outcome) v w w x y y n 0 (took_then (update_script r) answer updated v w x y n plays) (e w y h) in
-    took_fit wanting (update_by (Ok r)) (End outcome) v w x y m (took_more (and_then (update_script r) updated) (End outcome) v w x y (n + 0) m (omega (arith, le)) all)
+-- a script was played, and what follows was done
+pub plays_then : {A : Type 0} (s : Script A) (next : A → Turn) (answer : A) (outcome : Outcome) (v w : View) (x y : Shelved) (n m : ℕ) → n ≤ m → Plays s v w x y n answer → Ends (next answer) outcome
+    → Plays (Room wanting (and_then s next)) v w x y m outcome
+plays_then s next answer outcome v w x y n m le plays e =
+    let h : IsIn w = is_in_after s (End answer) v w x y n plays in
+    let all : Plays (and_then s next) v w x y (n + 0) outcome = took_joined (and_then s next) (next answer) (End outcome) v w w x y y n 0 (took_then s answer next v w x y n plays) (e w y h) in
+    took_fit wanting (and_then s next) (End outcome) v w x y m (took_more (and_then s next) (End outcome) v w x y (n + 0) m (omega (arith, le)) all)

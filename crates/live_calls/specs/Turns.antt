@@ -13,6 +13,8 @@ use Rattle.cas_calls.specs.Plays.{IsIn, Plays}
 use Rattle.cas_calls.specs.Statuses.{fine, no_message, many_messages, out_of_memory, fault_status}
 use Rattle.cas_calls.specs.Update.{Update, Answered, update_in, update_script, response_spelled}
 use Rattle.cas_calls.specs.Capable.{capabilities_spelled}
+use Rattle.cas_calls.specs.Find as find
+use Rattle.cas_calls.specs.BatchRead as batch
 use Rattle.live_calls.specs.declared.method.Method.{Method}
 use Rattle.live_calls.specs.declared.method.Method.TheVariants as methods
 use Rattle.live_calls.specs.declared.place.Messages.{Messages}
@@ -80,8 +82,36 @@ update_by (Ok r) = and_then (update_script r) updated
 abbrev pub update_turn : List ℕ → Turn
 update_turn message = Room wanting (update_by (update_in message))
 
+-- a Find that was made, or wasn't
+abbrev pub found : find.Answered → Turn
+found (Ok missing) = Room wanting (replied (find.response_spelled missing))
+found (Err status) = refused status
+
+abbrev pub find_by : Result find.Find MessageError → Turn
+find_by (Err fault) = refused (fault_status fault)
+find_by (Ok r) = and_then (find.find_script r) found
+
+-- FindMissingBlobs
+abbrev pub find_turn : List ℕ → Turn
+find_turn message = Room wanting (find_by (find.find_in message))
+
+-- blobs that were read, or weren't
+abbrev pub given : batch.Answered → Turn
+given (Ok answers) = Room wanting (replied (batch.response_spelled answers))
+given (Err status) = refused status
+
+abbrev pub read_by : Result batch.BatchRead MessageError → Turn
+read_by (Err fault) = refused (fault_status fault)
+read_by (Ok r) = and_then (batch.batch_read_script r) given
+
+-- BatchReadBlobs
+abbrev pub read_turn : List ℕ → Turn
+read_turn message = Room wanting (read_by (batch.batch_read_in message))
+
 abbrev pub answered_with : Method → List ℕ → Turn
+answered_with methods.FindMissingBlobs message = find_turn message
 answered_with methods.BatchUpdateBlobs message = update_turn message
+answered_with methods.BatchReadBlobs message = read_turn message
 answered_with methods.GetCapabilities message = capable_turn message
 
 -- a unary call takes one message

@@ -4,10 +4,12 @@
 
 mod batch;
 mod caps;
+mod find;
 mod happening;
 mod method;
 mod outcome;
 mod place;
+mod read;
 mod turn;
 
 pub use happening::Happening;

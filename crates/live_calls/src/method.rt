@@ -3,14 +3,21 @@
 ghost use Rattle.std.specs.Prelude.{◌≡◌};
 ghost use Rattle.live_calls.specs.Methods.{path_of, method_of};
 
-/// A method that is served. Both are unary.
+/// A method that is served. All are unary.
 #[derive(Clone, Copy, Debug, PartialEq, Eq)]
 pub enum Method {
+    FindMissingBlobs,
     BatchUpdateBlobs,
+    BatchReadBlobs,
     GetCapabilities,
 }
 
-const METHODS: [Method; 2] = [Method::BatchUpdateBlobs, Method::GetCapabilities];
+const METHODS: [Method; 4] = [
+    Method::FindMissingBlobs,
+    Method::BatchUpdateBlobs,
+    Method::BatchReadBlobs,
+    Method::GetCapabilities,
+];
 
 impl Method {
     /// The path of its requests.
@@ -18,8 +25,14 @@ impl Method {
         ensures { result.now ≡ path_of self }
     {
         match self {
+            Method::FindMissingBlobs => {
+                "/build.bazel.remote.execution.v2.ContentAddressableStorage/FindMissingBlobs"
+            }
             Method::BatchUpdateBlobs => {
                 "/build.bazel.remote.execution.v2.ContentAddressableStorage/BatchUpdateBlobs"
+            }
+            Method::BatchReadBlobs => {
+                "/build.bazel.remote.execution.v2.ContentAddressableStorage/BatchReadBlobs"
             }
             Method::GetCapabilities => {
                 "/build.bazel.remote.execution.v2.Capabilities/GetCapabilities"

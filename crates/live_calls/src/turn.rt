@@ -9,7 +9,7 @@ use crate::happening::Happening;
 use crate::method::Method;
 use crate::outcome::{Outcome, refuse};
 use crate::place::{Messages, Place};
-use crate::{batch, caps};
+use crate::{batch, caps, find, read};
 use blob_store::{Door, Shelf};
 use cas_calls::{many_messages, no_message};
 use casd_base::{Code, Status};
@@ -61,6 +61,8 @@ fn answer_with<K: Shelf, D: Door<K>>(
     ensures { Plays (answered_with method message.now) (D.view door.old) (D.view door.new) (K.shelved shelf.old) (K.shelved shelf.new) (2 ^ 22) result }
 {
     match method {
+        Method::FindMissingBlobs => find::answer::<K, D>(alloc, door, message),
+        Method::BatchReadBlobs => read::answer(alloc, door, shelf, message),
         Method::BatchUpdateBlobs => batch::answer(alloc, door, shelf, message),
         Method::GetCapabilities => {
             let _turns = door.left();
