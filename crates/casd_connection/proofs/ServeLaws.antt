@@ -78,6 +78,7 @@ lived v a b w x y turns steps e d l sound =
       seen = extends_more v.seen b.seen w.seen (extends_more v.seen a.seen b.seen e.seen t.seen) l.seen;
       count = omega (arith, e.count, t.count, l.count, length-append (by n (made steps)) (record { owner = n; event = events.Close; reply = replies.Closed } ∷ []), by-length n (made steps));
       grant = l.grant ∙ t.grant ∙ e.grant;
+      identity = l.identity ∙ t.identity ∙ e.identity;
     }
   where
     left_bare : (b w : View) → (l : Leaves b w) → own_now b ≡ [] → own_now w ≡ []
@@ -124,20 +125,28 @@ ready_fresh v s is is_in turns =
     subst (λ (t : State). IsReady t v) (sym is)
     (record { serving = record { sound = refl; role = refl; quiet = record { due = refl; streams = λ k d lt. absurd (none_below k lt) } }; pending = refl; is_in = is_in; turns = turns; fed = refl; few = omega arith })
 
+-- no entry is unmade
+pub made_more : (end : ConnEnd) (v a b w : View) (x y : Shelved) (p q : Linked) (read written : ℕ) → Enters v a → Ran end a b x y p q read written → Leaves b w → v.made ≤ w.made
+made_more end v a b w x y p q read written e r l = omega (arith, e.count, r.does.entries.count, l.count)
+
 -- a connection that ran is served
-pub served : (end : ConnEnd) (v a b w : View) (x y : Shelved) (p q : Linked) (read written : ℕ) → Enters v a → Ran end a b x y p q read written → Leaves b w → IsSound w → Served (record { end = end; read = read; written = written }) v w x y p q
-served end v a b w x y p q read written e r l sound = record {
-  ins = r.ins;
-  outs = r.outs;
-  steps = r.steps;
-  written = r.whole;
-  lived = lived v a b w x y r.turns r.steps e r.does l sound;
-  shelf = r.does.shelf;
-  carries = r.carries;
-  cause = fewer end r.whole.last.over p q (length r.ins) b.left w.left l.left r.cause;
-  read = r.read_is;
-  count = r.written_is;
-}
+pub served : (end : ConnEnd) (v a b w : View) (x y : Shelved) (p q : Linked) (turns read written : ℕ) → Enters v a → Ran end a b x y p q read written → Leaves b w → IsSound w → turns ≡ w.made - v.made
+    → Served (record { end = end; turns = turns; read = read; written = written }) v w x y p q
+served end v a b w x y p q turns read written e r l sound count =
+    let life = lived v a b w x y r.turns r.steps e r.does l sound in
+    record {
+      ins = r.ins;
+      outs = r.outs;
+      steps = r.steps;
+      written = r.whole;
+      lived = life;
+      shelf = r.does.shelf;
+      carries = r.carries;
+      cause = fewer end r.whole.last.over p q (length r.ins) b.left w.left l.left r.cause;
+      turns = omega (arith, count, life.count);
+      read = r.read_is;
+      count = r.written_is;
+    }
   where
     fewer : (end : ConnEnd) (over : Bool) (p q : Linked) (n m k : ℕ) → k ≤ m → Cause end over p q n m → Cause end over p q n k
     fewer ends.Done over p q n m k le h = h

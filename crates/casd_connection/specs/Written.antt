@@ -142,6 +142,7 @@ pub record Lived (v w : View) (steps : List Step) : Type 0 where
   pub seen : Extends v.seen w.seen
   pub count : w.made ≡ v.made + length (life owner steps)
   pub grant : w.grant ≡ v.grant
+  pub identity : w.identity ≡ v.identity
 
 -- a whole connection
 pub record Served (report : ConnReport) (v w : View) (x y : Shelved) (a b : Linked) : Type 0 where
@@ -153,12 +154,13 @@ pub record Served (report : ConnReport) (v w : View) (x y : Shelved) (a b : Link
   pub shelf : Shelves x y steps
   pub carries : Carries a b ins outs
   pub cause : Cause report.end written.last.over a b (length ins) w.left
+  pub turns : report.turns ≡ length (life lived.owner steps)
   pub read : report.read ≡ length ins
   pub count : report.written ≡ min (length outs) (2 ^ 64 - 1)
 
 -- memory was wanting before the owner came
 pub record Unserved (report : ConnReport) (v w : View) (x y : Shelved) (a b : Linked) : Type 0 where
-  pub told : report ≡ record { end = ends.OutOfMemory; read = 0; written = 0 }
+  pub told : report ≡ record { end = ends.OutOfMemory; turns = 0; read = 0; written = 0 }
   pub stays : StaysOut v w ⊎ (w ≡ v)
   pub shelf : y ≡ x
   pub link : b ≡ a

@@ -253,6 +253,7 @@ pub fn serve_connection<K: Shelf, D: Door<K>, L: Link>(
     let Ok(mut serving) = begin(alloc) else {
         return unserved();
     };
+    let before = door.made();
     match door.enter() {
         Ok(()) => {}
         Err(OutOfMemory) => return unserved(),
@@ -261,6 +262,7 @@ pub fn serve_connection<K: Shelf, D: Door<K>, L: Link>(
     let _turns = door.left();
     ConnReport {
         end,
+        turns: door.made() - before,
         read: serving.read,
         written: serving.written,
     }
@@ -268,10 +270,11 @@ pub fn serve_connection<K: Shelf, D: Door<K>, L: Link>(
 
 /// Memory was wanting before the owner came.
 fn unserved() -> ConnReport
-    ensures { result ≡ record { end = ends.OutOfMemory; read = 0; written = 0 } }
+    ensures { result ≡ record { end = ends.OutOfMemory; turns = 0; read = 0; written = 0 } }
 {
     ConnReport {
         end: ConnEnd::OutOfMemory,
+        turns: 0,
         read: 0,
         written: 0,
     }
