@@ -1,0 +1,3 @@
+pub mod UseList
+pub mod BodyName
+pub mod Told
