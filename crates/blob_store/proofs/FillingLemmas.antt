@@ -23,7 +23,7 @@ copied_by : (long : Bool) (bytes piece : List ℕ) → (long ≡ true → is_lon
 copied_by true bytes piece h = ap (λ (b : Bool). if b then None else Some (bytes ++ piece)) (sym (h refl))
 copied_by false bytes piece h = refl
 
-copied_more : (copy : Option (List ℕ)) (bytes piece : List ℕ) → copy ≡ copy_of bytes → copied copy piece ≡ copy_of (bytes ++ piece)
+pub copied_more : (copy : Option (List ℕ)) (bytes piece : List ℕ) → copy ≡ copy_of bytes → copied copy piece ≡ copy_of (bytes ++ piece)
 copied_more copy bytes piece is = ap (λ (c : Option (List ℕ)). copied c piece) is ∙ copied_by (is_long bytes) bytes piece (longer bytes piece)
 
 held_by : (long : Bool) (bytes : List ℕ) → held_in (if long then None else Some bytes) ≡ (if long then 0 else length bytes)

@@ -12,3 +12,7 @@ pub mod DoorSteps
 pub mod GoingOn
 pub mod RingLaws
 pub mod RestoredLaws
+pub mod LoadScans
+pub mod LoadRows
+pub mod LoadOrder
+pub mod LoadSifts

@@ -21,7 +21,7 @@ use Rattle.blob_store.specs.Restored.{row_with, is_taken, taken, in_use_order, r
 
 -- ---- bodies that are found
 
-size_is : (bytes : List ℕ) → (digest_of bytes).size ≡ length bytes
+pub size_is : (bytes : List ℕ) → (digest_of bytes).size ≡ length bytes
 unfolding digest_of
 size_is bytes = refl
 

@@ -12,3 +12,4 @@ pub mod Asked
 pub mod Doors
 pub mod Rings
 pub mod Restored
+pub mod Loading

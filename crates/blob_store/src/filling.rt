@@ -147,7 +147,7 @@ fn add_to<K: Shelf>(
 }
 
 // Appends bytes to a copy, which is given up where it would be too long for a Directory.
-fn add_copy(copy: &mut Option<Bytes>, bytes: &[u8]) -> Result<(), OutOfMemory>
+pub(crate) fn add_copy(copy: &mut Option<Bytes>, bytes: &[u8]) -> Result<(), OutOfMemory>
     ensures ok { OnOk result (copy.new ≡ copied copy.old bytes.now) }
     ensures err { OnErr result (copy.new ≡ copy.old) }
 {
@@ -163,7 +163,7 @@ fn add_copy(copy: &mut Option<Bytes>, bytes: &[u8]) -> Result<(), OutOfMemory>
 
 // The links of the bytes that have this copy.
 #[tactic(auto, using(crate::proofs::FillingLemmas::none_links, crate::proofs::FillingLemmas::some_links))]
-fn edges_of(alloc: Global, copy: &Option<Bytes>) -> Result<Option<Edges>, OutOfMemory>
+pub(crate) fn edges_of(alloc: Global, copy: &Option<Bytes>) -> Result<Option<Edges>, OutOfMemory>
     ensures { IfOk result (λ edges. (bytes : List ℕ) → copy.now ≡ copy_of bytes → edges ≡ links bytes) }
 {
     match copy {

@@ -11,6 +11,7 @@ mod door;
 mod filling;
 mod gate;
 pub mod laws;
+mod load;
 mod lock_door;
 mod memory;
 mod noting;

@@ -13,7 +13,7 @@ ghost use Rattle.store_core.specs.Memory.{takes_memory};
 ghost use Rattle.indexed_core.specs.Removal.{removed, IsPassed, adds_row};
 ghost use Rattle.blob_store.specs.Applied.{HasBody, gives_up, put_gives_up, passed_gives_up, gives_up_beside};
 ghost use Rattle.blob_store.specs.Calls.{Begins};
-ghost use Rattle.blob_store.specs.Kept.{told_in, keeps_body, KeepsBodies, PutsBody, MovesBody};
+ghost use Rattle.blob_store.specs.Kept.{AreBodiesOf, told_in, keeps_body, KeepsBodies, PutsBody, MovesBody};
 ghost use Rattle.blob_store.specs.Rings.{ring_mark};
 ghost use Rattle.blob_store.specs.Shelves.{Stays, HasShelfCause, discarding};
 ghost use Rattle.blob_store.specs.declared.shelf.ShelfEnd.TheVariants.{OutOfMemory as NoMemory};
@@ -60,6 +60,21 @@ impl<K: Shelf> Store<K> {
         Ok(Store {
             core: Box::new(alloc, IndexedCore::new(alloc, marks))?,
             bodies: Box::new(alloc, Bodies::new(alloc))?,
+        })
+    }
+
+    /// A store with these rows and their bodies.
+    pub(crate) fn of_parts(
+        alloc: Global,
+        core: IndexedCore,
+        bodies: Bodies<K>,
+    ) -> Result<Store<K>, OutOfMemory>
+        requires { AreBodiesOf core.rows bodies.bodies }
+        ensures { IfOk result (λ s. s ≡ record { state = core; bodies = bodies.bodies }) }
+    {
+        Ok(Store {
+            core: Box::new(alloc, core)?,
+            bodies: Box::new(alloc, bodies)?,
         })
     }
 

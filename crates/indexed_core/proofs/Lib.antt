@@ -1,3 +1,4 @@
+pub mod AddedRows
 pub mod FlagLaws
 pub mod HeldLaws
 pub mod HeldWithout

@@ -19,7 +19,7 @@ use Rattle.store_core.specs.Reach.{blobs, is_reached}
 use Rattle.store_core.specs.Pass.{is_guarded, guarded, unguarded, victims, gone}
 use Rattle.store_core.specs.Standing.{standing}
 use Rattle.store_core.specs.Step.{put_over, leased, confirmed, own_lease, holds_after}
-use Rattle.store_core.proofs.Changes.{again_is, again_keeps, kept_follows, new_row, room_of, guarded_within}
+use Rattle.store_core.proofs.Changes.{again_is, again_keeps, kept_follows, new_row, room_of}
 use Rattle.store_core.proofs.Elements.{every_filter}
 use Rattle.store_core.proofs.HeldRows.{HaveRows, has_as_before}
 use Rattle.store_core.proofs.Kept.{follows_filter}
@@ -159,10 +159,10 @@ again_reply s now p guards d edges reply sound = reply_by s now p guards d edges
 
 -- ---- a blob with no row
 
-pub no_space_is : (s now : State) (d : HashAndSize) (edges : Option (List Edge)) (held size high : ℕ) → s ≡ now → IsKept s → held ≡ guarded s → size ≡ d.size → high ≡ s.high → high - held < size
+pub no_space_is : (s now : State) (d : HashAndSize) (edges : Option (List Edge)) (held size high : ℕ) → s ≡ now → IsKept s → held ≡ guarded s → size ≡ d.size → high ≡ s.high → high < held + size
     → (replies.NoSpace held size high, now) ≡ put_over now d edges None
 no_space_is s now d edges held size high e kept is_held is_size is_high lt =
-    let over : nat_lt s.high (guarded s + d.size) ≡ true = lt-ltb _ _ (omega (arith, guarded_within s, kept.within)) in
+    let over : nat_lt s.high (guarded s + d.size) ≡ true = lt-ltb _ _ (omega arith) in
     let here : ◌≡◌ {A = Reply × State} (replies.NoSpace held size high, s) (replies.NoSpace (guarded s) d.size s.high, s) = cc in
     subst (λ (t : State). (replies.NoSpace held size high, t) ≡ put_over t d edges None) e (here ∙ sym (cond-true (nat_lt s.high (guarded s + d.size)) (replies.NoSpace (guarded s) d.size s.high, s) _ over))
 
@@ -176,13 +176,13 @@ room_is s now p size bytes target count e rows guards over is_bytes is_target is
     ap (take count) (free_are s p rows guards) ∙ ap (λ (n : ℕ). take n (unguarded s)) counted in
     subst (λ (t : State). take count (free p) ≡ room_of t size) e (here ∙ sym (cond-true (nat_lt s.high (used s + size)) (gone s (min s.low (s.high - size))) [] lt))
 
-pub fits_of : (s now : State) (d : HashAndSize) (ds : List HashAndSize) (held size : ℕ) → s ≡ now → IsKept s → has_row now.rows d ≡ false → is_empty d ≡ false → held ≡ guarded s → size ≡ d.size → size ≤ s.high - held
+pub fits_of : (s now : State) (d : HashAndSize) (ds : List HashAndSize) (held size : ℕ) → s ≡ now → IsKept s → has_row now.rows d ≡ false → is_empty d ≡ false → held ≡ guarded s → size ≡ d.size → held + size ≤ s.high
     → ds ≡ room_of now size → Fits s d ds
 fits_of s now d ds held size e kept absent filled is_held is_size fits goes = record {
   kept = kept;
   none = no_row d s.rows (ap (λ (t : State). has_row t.rows d) e ∙ absent);
   filled = filled;
-  small = omega (arith, guarded_within s, kept.within);
+  small = omega arith;
   goes = goes ∙ ap (room_of now) is_size ∙ ap (λ (t : State). room_of t d.size) (sym e);
 }
 

@@ -2,11 +2,10 @@
 use Rattle.std.proofs.Common.{◌≡◌, ◌≢◌, ℕ, zero, suc, ◌+◌, ◌-◌, ◌≤◌, Bool, true, false, cond, not, min, List, [], ◌∷◌, ◌++◌, length, length-append, take, Option, Some, None, inl, inr, refl, sym, ap, subst, ◌∙◌, arith}
 use Rattle.std.specs.Prelude.{nat_lt, ◌||◌, ◌&&◌}
 use Rattle.std.specs.List.{AllByRecursion}
-use Rattle.std.proofs.lemmas.Bool.{cases_Bool, cond-true}
+use Rattle.std.proofs.lemmas.Bool.{cases_Bool, cond_both, cond-true, ltb-false}
 use Rattle.std.proofs.lemmas.Map.Views.{any-filter_same}
 use Rattle.std.proofs.lemmas.List.Elements.{All-from_recursion}
 use Rattle.std.proofs.lemmas.List.Folds.{list_any-append, list_any_none}
-use Rattle.std.proofs.lemmas.List.Sums.{sum_by_push}
 use Rattle.digest_types.specs.Name.{HashAndSize}
 use Rattle.directory_canon.specs.declared.node.Edge.{Edge}
 use Rattle.store_core.specs.declared.event.Reply.{Reply}
@@ -18,7 +17,7 @@ use Rattle.store_core.specs.Step.{is_open, put_over, put, holding, served, step}
 use Rattle.store_core.specs.declared.event.Event.TheVariants as events
 use Rattle.store_core.proofs.Changes.{Adds, added_keeps, added_is, new_row, room_of, put_new_is, without_last}
 use Rattle.store_core.proofs.Elements.{every_filter, every_has, every_map, every_take, none_pass, find_none, find_missed, has_from_map}
-use Rattle.store_core.proofs.Passes.{not_among}
+use Rattle.store_core.proofs.Passes.{not_among, pass_down}
 use Rattle.store_core.proofs.ReachLaws.{any_passes}
 use Rattle.store_core.proofs.RowLaws.{Differs, absent, found_row}
 use Rattle.store_core.proofs.Same.{equal_from_same, same_from_equal, not_same_from_other, other_from_not_same}
@@ -26,6 +25,7 @@ use Rattle.store_core.proofs.Uses.{holding_rows}
 use Rattle.lease_table.specs.Table.{DistinctDigests}
 use Rattle.lease_table.proofs.OrderLaws.{distinct_kept}
 use Rattle.indexed_core.specs.Removal.{AreRows, PutsRow}
+use Rattle.indexed_core.proofs.AddedRows.{without_none}
 use Rattle.indexed_core.proofs.MachineLaws.{counts}
 
 -- ---- whether a digest has a row
@@ -128,7 +128,13 @@ module _ (s : State) (d : HashAndSize) (edges : Option (List Edge)) (ds : List H
   fits_keeps = added_keeps s d edges ds pushed left adds f.kept
 
   pub fits_small : sizes (without ds s.rows) + d.size ≤ s.high
-  fits_small = let k = fits_keeps in omega (arith, k.within, sum_by_push (λ (r : Row). r.digest.size) (without ds s.rows) (new_row d edges))
+  fits_small =
+      let target = min s.low (s.high - d.size) in
+      let room : sizes (without (gone s target) s.rows) + d.size ≤ s.high = let small = f.small in elim (pass_down s target f.kept.valid.distinct) [ inl down ↦ omega (arith, small, down) | inr just ↦ omega (arith, small, just) ] in
+      subst (λ (es : List HashAndSize). sizes (without es s.rows) + d.size ≤ s.high) (sym f.goes)
+      (cond_both (nat_lt s.high (used s + d.size)) (gone s target) [] (λ es. sizes (without es s.rows) + d.size ≤ s.high)
+      (λ _. room)
+      (λ fits. let all = ap sizes (without_none s.rows) in omega (arith, all, ltb-false _ _ fits)))
 
   pub fits_is : (now : State) (removed bytes : ℕ) → s ≡ now → removed ≡ length ds → bytes ≡ sizes left → (replies.Stored removed bytes, record s { rows = left }) ≡ put_over now d edges None
   fits_is now removed bytes e count sum =

@@ -1,14 +1,16 @@
 //! Which blobs are there.
 
-ghost use Rattle.std.specs.Prelude.{◌≡◌, IfOk};
+ghost use Rattle.std.specs.Prelude.{◌≡◌, ◌≤◌, ◌^◌, [], true, IfOk, OnOk};
+ghost use Rattle.std.specs.List.{AllByRecursion};
+ghost use Rattle.store_core.specs.State.{Distinct, sizes};
 ghost use Rattle.store_core.specs.Step.{is_here, missing, touched_all};
 
 use crate::index::Index;
-use digest_types::Digest;
+use digest_types::{Digest, Digests};
 use indexmap::IndexSet;
 use proto_wire::OutOfMemory;
 use std::alloc::Global;
-use store_core::is_empty_blob;
+use store_core::{Row, is_empty_blob};
 
 /// Whether a blob is there.
 pub(crate) fn is_here(index: &Index, digest: &Digest) -> bool
@@ -41,4 +43,19 @@ pub(crate) fn touch_all(index: &mut Index, digests: &[Digest])
     for digest in digests {
         index.touch(digest);
     }
+}
+
+/// Adds these rows to an index that has none.
+pub(crate) fn add_all(alloc: Global, index: &mut Index, rows: &[Row]) -> Result<(), OutOfMemory>
+    requires empty { index.old.rows ≡ [] }
+    requires distinct { Distinct rows.now }
+    requires sound { AllByRecursion (λ row. row.sound ≡ true) rows.now }
+    requires small { sizes rows.now ≤ 2 ^ 60 }
+    ensures { OnOk result (index.new ≡ record index.old { rows = rows.now }) }
+{
+    let none = Digests::new(alloc);
+    for row in rows {
+        index.add(&row.digest, row.edges.as_ref(), &none, None)?;
+    }
+    Ok(())
 }

@@ -1,9 +1,11 @@
 //! `IndexedCore`.
 
-ghost use Rattle.std.specs.Prelude.{◌≡◌, ◌<◌, ◌≤◌, ◌+◌, ◌-◌, ◌^◌, ◌||◌, ◌∷◌, [], true, false, min, nat_lt, length, slice_get, ℕ, List, Option, Some, None, IfOk, IfSome, OnOk, OnErr, IfNone, IsOk, if◌then◌else◌};
+ghost use Rattle.std.specs.Prelude.{◌≡◌, ◌≢◌, ◌<◌, ◌≤◌, ◌+◌, ◌-◌, ◌^◌, ◌||◌, ◌∷◌, [], true, false, min, nat_lt, length, slice_get, ℕ, List, Option, Some, None, IfOk, IfSome, OnOk, OnErr, IfNone, IsOk, if◌then◌else◌};
 ghost use Rattle.directory_canon.specs.declared.node.Edge.{Edge};
-ghost use Rattle.store_core.specs.State.{State, Distinct, digests, new_state, is_empty, is_session, row_of, has_row, others, used};
-ghost use Rattle.store_core.specs.Step.{is_opening, is_open, is_here, step, served, opened, put, put_over, holds_after, holding, found, read, leased, confirmed, released, own_lease, noted, passed, usage, closed};
+ghost use Rattle.std.specs.List.{AllByRecursion};
+ghost use Rattle.digest_types.specs.Digest.{digest_of};
+ghost use Rattle.store_core.specs.State.{State, Distinct, digests, sizes, new_state, is_empty, is_session, row_of, has_row, others, used};
+ghost use Rattle.store_core.specs.Step.{touched_all, is_opening, is_open, is_here, step, served, opened, put, put_over, holds_after, holding, found, read, leased, confirmed, released, own_lease, noted, passed, usage, closed};
 ghost use Rattle.store_core.specs.Pass.{gone, unguarded};
 ghost use Rattle.store_core.specs.Memory.{takes_memory};
 ghost use Rattle.store_core.specs.declared.event.Event.TheVariants as events;
@@ -11,7 +13,7 @@ ghost use Rattle.store_core.specs.declared.event.Reply.TheVariants as replies;
 ghost use Rattle.indexed_core.specs.Removal.{removed, IsPassed, PutsRow};
 ghost use Rattle.indexed_core.specs.Events.{moves_bodies};
 
-use crate::asking::{is_here, missing, touch_all};
+use crate::asking::{add_all, is_here, missing, touch_all};
 use crate::index::Index;
 use crate::standing::standing;
 use digest_types::{Digest, Digests};
@@ -21,7 +23,7 @@ use std::alloc::Global;
 use std::marker::Model;
 use store_core::leases::{has_lease, own_lease, release};
 use store_core::owners::{is_among, leave};
-use store_core::{Event, Guard, Lease, Marks, Reply, Usage, is_empty_blob};
+use store_core::{Event, Guard, Lease, Marks, Reply, Row, Usage, is_empty_blob};
 
 /// The store's rules over hashed indexes.
 #[derive(Debug, Drop)]
@@ -81,6 +83,34 @@ impl IndexedCore {
             next_lease: 1,
             owners: Vec::new(alloc),
         }
+    }
+
+    /// A store with these rows, in the order of their use, of which those of the digests of `saved` become the most recent
+    /// ones, one after the other.
+    pub fn of_rows(
+        alloc: Global,
+        marks: Marks,
+        rows: &[Row],
+        saved: &[Digest],
+    ) -> Result<IndexedCore, OutOfMemory>
+        requires distinct { Distinct rows.now }
+        requires filled { AllByRecursion (λ row. row.digest ≢ digest_of []) rows.now }
+        requires sound { AllByRecursion (λ row. row.sound ≡ true) rows.now }
+        requires small { sizes rows.now ≤ 2 ^ 60 }
+        ensures { IfOk result (λ c. c ≡ record (new_state marks.low marks.high marks.guard) { rows = touched_all saved.now rows.now }) }
+    {
+        let mut index = Index::new(alloc);
+        add_all(alloc, &mut index, rows)?;
+        touch_all(&mut index, saved);
+        Ok(IndexedCore {
+            alloc,
+            index,
+            leases: Vec::new(alloc),
+            marks,
+            next_owner: 1,
+            next_lease: 1,
+            owners: Vec::new(alloc),
+        })
     }
 
     /// The numbers of the store. It takes no memory.
@@ -351,7 +381,7 @@ impl IndexedCore {
         let size = digest.size;
         let high = self.marks.high;
         let guarded = self.index.guarded_bytes();
-        if size > high - guarded {
+        if guarded + size > high {
             let reply = Reply::NoSpace {
                 guarded,
                 size,

@@ -1,5 +1,5 @@
 -- The changes that the code makes, in the words of a step.
-use Rattle.std.proofs.Common.{◌≡◌, ◌≢◌, ℕ, ◌+◌, ◌-◌, ◌≤◌, Bool, true, false, cond, not, min, List, [], ◌∷◌, ◌++◌, length, length-append, Option, Some, None, refl, sym, ap, subst, ◌∙◌, arith}
+use Rattle.std.proofs.Common.{◌≡◌, ◌≢◌, ℕ, ◌+◌, ◌-◌, ◌^◌, ◌≤◌, Bool, true, false, cond, not, max, min, List, [], ◌∷◌, ◌++◌, length, length-append, Option, Some, None, refl, sym, ap, subst, ◌∙◌, arith}
 use Rattle.std.specs.Prelude.{nat_lt, is_some, if◌then◌else◌, Result, Ok, Err, OnOk, OnErr}
 use Rattle.std.proofs.lemmas.Bool.{cond_both, cond-true, cond-false, le-ltb, not_from_false}
 use Rattle.std.proofs.lemmas.List.Elements.{filter-append}
@@ -24,7 +24,7 @@ use Rattle.store_core.proofs.Same.{other_from_not_same}
 pub kept_follows : (s t : State) → Follows s t → IsKept s → IsKept t
 kept_follows s t f k = record {
   valid = f.valid k.valid;
-  within = omega (arith, f.within k.valid k.within, f.high);
+  within = let most = max s.high (2 ^ 60) in let kept = f.within most k.valid (omega arith) k.within in omega (arith, kept, f.high);
 }
 
 -- ---- holds
@@ -159,12 +159,12 @@ pub record Adds (s : State) (d : HashAndSize) (edges : Option (List Edge)) (ds :
   pub left : rows ≡ without ds pushed
 
 pub adds_from : (s now : State) (d : HashAndSize) (edges : Option (List Edge)) (bytes size : ℕ) (room ds : List HashAndSize) (row : Row) (pushed rows : List Row) → s ≡ now → IsKept s → row_of d now.rows ≡ None → is_empty d ≡ false
-    → bytes ≡ guarded s → size ≡ d.size → size ≤ s.high - bytes → room ≡ room_of now size → ds ≡ room → row ≡ new_row d edges → pushed ≡ s.rows ++ row ∷ [] → rows ≡ without ds pushed
+    → bytes ≡ guarded s → size ≡ d.size → bytes + size ≤ s.high → room ≡ room_of now size → ds ≡ room → row ≡ new_row d edges → pushed ≡ s.rows ++ row ∷ [] → rows ≡ without ds pushed
     → Adds s d edges ds pushed rows
 adds_from s now d edges bytes size room ds row pushed rows e kept none filled counted is fits made held row_is last left = record {
   none = ap (λ (t : State). row_of d t.rows) e ∙ none;
   filled = filled;
-  small = omega (arith, guarded_within s, kept.within);
+  small = omega arith;
   goes = held ∙ made ∙ ap (room_of now) is ∙ ap (λ (t : State). room_of t d.size) (sym e);
   last = last ∙ ap (λ (r : Row). s.rows ++ r ∷ []) row_is;
   left = left;

@@ -1,4 +1,4 @@
--- What each step keeps: a valid state stays valid, and one within its high mark within it.
+-- What each step keeps: a valid state stays valid, and one within its high mark, or within more than that, within it.
 use Rattle.std.proofs.Common.{◌≡◌, ◌≢◌, ℕ, ◌+◌, ◌-◌, ◌<◌, ◌≤◌, Bool, true, false, cond, not, min, List, [], ◌∷◌, ◌++◌, length, Option, Some, None, inl, inr, refl, sym, ap, subst, ◌∙◌, arith}
 use Rattle.std.specs.Prelude.{filter, nat_lt, nat_eq, Contains, ◌||◌, ◌&&◌}
 use Rattle.std.specs.List.{AllByRecursion, list_any}
@@ -30,7 +30,7 @@ use Rattle.store_core.proofs.Uses.{HasItsRow, put_alone, read_alone, put_row, re
 -- what a state keeps of the one before it
 pub record Follows (s t : State) : Type 0 where
   pub valid : Valid s → Valid t
-  pub within : Valid s → used s ≤ s.high → used t ≤ s.high
+  pub within : (most : ℕ) → Valid s → s.high ≤ most → used s ≤ most → used t ≤ most
   pub low : t.low ≡ s.low
   pub high : t.high ≡ s.high
   pub guard : t.guard ≡ s.guard
@@ -38,7 +38,7 @@ pub record Follows (s t : State) : Type 0 where
   pub leases : t.next_lease ≤ s.next_lease + 1
 
 pub follows_itself : (s : State) → Follows s s
-follows_itself s = record { valid = λ v. v; within = λ v h. h; low = refl; high = refl; guard = refl; owners = omega arith; leases = omega arith }
+follows_itself s = record { valid = λ v. v; within = λ most v high h. h; low = refl; high = refl; guard = refl; owners = omega arith; leases = omega arith }
 
 -- what holds of the states of both outcomes holds of that of the one that is chosen
 pub chosen : (P : State → Type 0) (b : Bool) (x y : Reply × State) → (b ≡ true → P x.1) → (b ≡ false → P y.1) → P (cond b x y).1
@@ -71,7 +71,7 @@ valid_rows s rows v good = record {
 }
 
 -- a change of the rows alone
-pub follows_rows : (s : State) (rows : List Row) → (Valid s → Good s rows) → (Valid s → used s ≤ s.high → sizes rows ≤ s.high) → Follows s (record s { rows = rows })
+pub follows_rows : (s : State) (rows : List Row) → (Valid s → Good s rows) → ((most : ℕ) → Valid s → s.high ≤ most → used s ≤ most → sizes rows ≤ most) → Follows s (record s { rows = rows })
 follows_rows s rows good fits = record {
   valid = λ v. valid_rows s rows v (good v);
   within = fits;
@@ -90,7 +90,7 @@ good_turned s rows t v = record {
 }
 
 pub follows_turned : (s : State) (rows : List Row) → IsTurned s.rows rows → Follows s (record s { rows = rows })
-follows_turned s rows t = follows_rows s rows (good_turned s rows t) (λ v h. omega (arith, t.bytes))
+follows_turned s rows t = follows_rows s rows (good_turned s rows t) (λ most v high h. omega (arith, t.bytes))
 
 -- some rows stay, and those that are held among them
 good_filter : (s : State) (p : Row → Bool) → HaveRows s.holds (filter p s.rows) → Valid s → Good s (filter p s.rows)
@@ -101,7 +101,7 @@ good_filter s p held v = record {
 }
 
 pub follows_filter : (s : State) (p : Row → Bool) → (Valid s → HaveRows s.holds (filter p s.rows)) → Follows s (record s { rows = filter p s.rows })
-follows_filter s p held = follows_rows s (filter p s.rows) (λ v. good_filter s p (held v) v) (λ v h. omega (arith, sizes_filter p s.rows))
+follows_filter s p held = follows_rows s (filter p s.rows) (λ v. good_filter s p (held v) v) (λ most v high h. omega (arith, sizes_filter p s.rows))
 
 -- a pass takes nothing that is held
 held_passed : (s : State) (target : ℕ) → Valid s → HaveRows s.holds (pass s target).rows
@@ -115,7 +115,7 @@ pub follows_damaged : (s : State) (d : HashAndSize) → Follows s (record s { ro
 follows_damaged s d =
     follows_rows s (damaged d s.rows)
     (λ v. record { distinct = damaged_distinct d s.rows v.distinct; filled = damaged_filled d s.rows v.filled; held = held_damaged s.holds d s.rows v.hold_rows })
-    (λ v h. omega (arith, damaged_sizes d s.rows))
+    (λ most v high h. omega (arith, damaged_sizes d s.rows))
 
 -- a row is put again
 pub follows_again : (s : State) (d : HashAndSize) (row : Row) → row_of d s.rows ≡ Some row → Follows s (with_row (record s { rows = others d s.rows }) (record row { sound = true }))
@@ -128,7 +128,7 @@ follows_again s d row e =
       filled = again_filled d s.rows sound (every_contains (λ r. r.digest ≢ digest_of []) s.rows row v.filled f.has) v.filled;
       held = held_again s.holds d s.rows sound f.digest v.hold_rows;
     })
-    (λ v h. let size : row.digest.size ≡ d.size = ap (λ (x : HashAndSize). x.size) f.digest in omega (arith, f.bytes, sum_by_push (λ (r : Row). r.digest.size) (others d s.rows) sound))
+    (λ most v high h. let size : row.digest.size ≡ d.size = ap (λ (x : HashAndSize). x.size) f.digest in omega (arith, f.bytes, sum_by_push (λ (r : Row). r.digest.size) (others d s.rows) sound))
 
 -- a row is added to rows of other digests
 follows_new : (s : State) (rows : List Row) (row : Row) → (Valid s → Good s rows) → AllByRecursion (λ other. other.digest ≢ row.digest) rows → row.digest ≢ digest_of []
@@ -142,7 +142,7 @@ follows_new s rows row good differ filled fits =
       filled = every_push (λ r. r.digest ≢ digest_of []) rows row g.filled filled;
       held = held_push s.holds rows row g.held;
     })
-    (λ v h. omega (arith, fits v, sum_by_push (λ (r : Row). r.digest.size) rows row))
+    (λ most v high h. omega (arith, fits v, sum_by_push (λ (r : Row). r.digest.size) rows row))
 
 -- there is room after a pass for what the high mark leaves beside the guarded bytes
 room_after : (s : State) (size : ℕ) → Valid s → guarded s + size ≤ s.high → used (pass s (min s.low (s.high - size))) + size ≤ s.high
@@ -260,7 +260,7 @@ valid_released s p v = record {
 pub follows_leased : (s : State) (owner : ℕ) (root : Edge) → Contains s.owners owner → Follows s (leased s owner root).1
 follows_leased s owner root is_there = record {
   valid = valid_leased s (record { id = s.next_lease; owner = owner; root = root }) refl is_there;
-  within = λ v h. h;
+  within = λ most v high h. h;
   low = refl;
   high = refl;
   guard = refl;
@@ -276,7 +276,7 @@ follows_released : (s : State) (id : ℕ) (o : Option Lease) → Follows s (rele
 follows_released s id None = follows_itself s
 follows_released s id (Some lease) = record {
   valid = valid_released s (λ l. not (has_id id l));
-  within = λ v h. h;
+  within = λ most v high h. h;
   low = refl;
   high = refl;
   guard = refl;
@@ -317,13 +317,13 @@ valid_gone s owner none v = record {
 }
 
 pub follows_opened : (s : State) → Follows s (opened s).1
-follows_opened s = record { valid = valid_opened s; within = λ v h. h; low = refl; high = refl; guard = refl; owners = omega arith; leases = omega arith }
+follows_opened s = record { valid = valid_opened s; within = λ most v high h. h; low = refl; high = refl; guard = refl; owners = omega arith; leases = omega arith }
 
 pub follows_closed : (s : State) (owner : ℕ) → Follows s (closed s owner).1
 follows_closed s owner =
     chosen (Follows s) (list_any (is_of_owner owner) s.leases) (replies.Refused, s) (replies.Closed, record s { owners = filter (λ o. not (nat_eq o owner)) s.owners; holds = other_holds owner s.holds })
     (λ _. follows_itself s)
-    (λ none. record { valid = valid_gone s owner none; within = λ v h. h; low = refl; high = refl; guard = refl; owners = omega arith; leases = omega arith })
+    (λ none. record { valid = valid_gone s owner none; within = λ most v high h. h; low = refl; high = refl; guard = refl; owners = omega arith; leases = omega arith })
 
 -- ---- a step
 

@@ -1,5 +1,5 @@
 -- What the store keeps, as plain data.
-use Rattle.std.specs.Prelude.{◌≡◌, ◌≢◌, ◌<◌, ◌≤◌, ◌&&◌, ◌++◌, not, nat_eq, ℕ, Bool, true, false, List, [], ◌∷◌, filter, find, map, sum_by, Contains, Option, if◌then◌else◌}
+use Rattle.std.specs.Prelude.{◌≡◌, ◌≢◌, ◌<◌, ◌≤◌, ◌&&◌, ◌++◌, not, nat_eq, max, ◌^◌, ℕ, Bool, true, false, List, [], ◌∷◌, filter, find, map, sum_by, Contains, Option, if◌then◌else◌}
 use Rattle.std.specs.List.{AllByRecursion, list_any}
 use Rattle.std.specs.Cmp.Lexicographic.{pointwise}
 use Rattle.digest_types.specs.Name.{HashAndSize}
@@ -163,10 +163,10 @@ pub record Valid (s : State) : Type 0 where
   pub unheld : is_session s.guard ≡ false → s.holds ≡ []
   pub owners : AllByRecursion (λ owner. owner < s.next_owner) s.owners
 
--- a valid state whose bytes are within the high mark, as the running store keeps it
+-- a valid state as the running store keeps it: its bytes are within the high mark, or so few that no sum of theirs is too large. A store that is restored may be above its high mark.
 pub record IsKept (s : State) : Type 0 where
   pub valid : Valid s
-  pub within : used s ≤ s.high
+  pub within : used s ≤ max s.high (2 ^ 60)
 
 -- an empty store
 abbrev pub new_state : ℕ → ℕ → Guard → State

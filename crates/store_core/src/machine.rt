@@ -239,7 +239,7 @@ impl Core {
         let high = self.marks.high;
         let guards = self.guards()?;
         let guarded = guarded_by(&self.rows, &guards);
-        if size > high - guarded {
+        if guarded + size > high {
             return Ok(Reply::NoSpace {
                 guarded,
                 size,

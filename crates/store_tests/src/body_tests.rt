@@ -8,7 +8,7 @@ use proto_wire::Bytes;
 use std::alloc::Global;
 use std::test::*;
 
-fn mem_shelf(
+pub(crate) fn mem_shelf(
     alloc: Global,
     found: &[&[u8]],
     failing: &[u64],

@@ -11,4 +11,6 @@ mod bench_tests;
 #[cfg(test)]
 mod body_tests;
 #[cfg(test)]
+mod load_tests;
+#[cfg(test)]
 mod store_tests;

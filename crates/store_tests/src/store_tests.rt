@@ -11,7 +11,7 @@ use store_core::{Event, Guard, Marks, Reply};
 
 // What an owner does, with the bytes of a blob.
 #[derive(Clone, Copy)]
-enum Act<'a> {
+pub(crate) enum Act<'a> {
     Open,
     Put(&'a [u8]),
     Read(&'a [u8]),
@@ -143,7 +143,7 @@ fn step(
 }
 
 // Takes each step in turn: its owner, what it does, and the reply that is due.
-fn run(
+pub(crate) fn run(
     rt: &impl Abort,
     alloc: Global,
     store: &mut Store<MemShelf>,

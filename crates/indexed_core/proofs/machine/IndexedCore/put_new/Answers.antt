@@ -18,25 +18,25 @@ use Rattle.indexed_core.proofs.MachineChanges.{no_space_is, fits_of, both_change
 use Rattle.indexed_core.proofs.MachinePuts.{fits_other, fits_small, fits_keeps, fits_is, fits_puts}
 use Rattle.indexed_core.proofs.machine.IndexedCore.put_new.Goals as goal
 
-pub overflow_sub-high : goal.overflow_sub-high
-overflow_sub-high c =
+pub overflow_add-guarded : goal.overflow_add-guarded
+overflow_add-guarded c =
     let s = the_view c.self.inside in
-    omega (arith, c.guarded_bytes-guarded.ensures, bytes_guarded s c.self.inside.index refl (guards_are (the_view c.self.inside) c.self.inside.index.guards c.self.invariant.0 refl), guarded_within s, c.self.invariant.1.within)
+    omega (arith, c.guarded_bytes-guarded.ensures, bytes_guarded s c.self.inside.index refl (guards_are (the_view c.self.inside) c.self.inside.index.guards c.self.invariant.0 refl), guarded_within s, c.self.invariant.1.within, c.self.inside.marks.small, c.digest.invariant)
 
-pub returns-then-size-high-clause-ok : goal.returns-then-size-high-clause-ok
-returns-then-size-high-clause-ok c =
+pub returns-then-guarded-size-clause-ok : goal.returns-then-guarded-size-clause-ok
+returns-then-guarded-size-clause-ok c =
     let s = the_view c.self.inside in
     unused_is c.args.self.now c.args.owner c.args.digest.now (replies.NoSpace c.guarded_bytes-guarded.result c.digest.inside.size s.high) refl
     ∙ ap (holding c.args.owner c.args.digest.now)
     (no_space_is s c.args.self.now c.args.digest.now c.args.edges.now c.guarded_bytes-guarded.result c.digest.inside.size s.high c.self.view_is c.self.invariant.1
-    (c.guarded_bytes-guarded.ensures ∙ bytes_guarded s c.self.inside.index refl (guards_are (the_view c.self.inside) c.self.inside.index.guards c.self.invariant.0 refl)) (ap (λ (x : HashAndSize). x.size) c.digest.view_is) refl c.if-size-high.true)
+    (c.guarded_bytes-guarded.ensures ∙ bytes_guarded s c.self.inside.index refl (guards_are (the_view c.self.inside) c.self.inside.index.guards c.self.invariant.0 refl)) (ap (λ (x : HashAndSize). x.size) c.digest.view_is) refl c.if-guarded-size.true)
 
 pub add-requires-clause-others : goal.add-requires-clause-others
 add-requires-clause-others c =
     let s = the_view c.self.inside in
     let held = c.guarded_bytes-guarded.ensures ∙ bytes_guarded s c.self.inside.index refl (guards_are (the_view c.self.inside) c.self.inside.index.guards c.self.invariant.0 refl) in
     let fits = fits_of s c.args.self.now c.args.digest.now c.in_ok-gone.gone c.guarded_bytes-guarded.result c.digest.inside.size c.self.view_is c.self.invariant.1 c.requires.new c.requires.filled
-    held (ap (λ (x : HashAndSize). x.size) c.digest.view_is) c.if-size-high.false c.in_ok-gone.ensures in
+    held (ap (λ (x : HashAndSize). x.size) c.digest.view_is) c.if-guarded-size.false c.in_ok-gone.ensures in
     fits_other s c.args.digest.now c.args.edges.now c.in_ok-gone.gone fits
 
 pub add-requires-clause-small : goal.add-requires-clause-small
@@ -44,7 +44,7 @@ add-requires-clause-small c =
     let s = the_view c.self.inside in
     let held = c.guarded_bytes-guarded.ensures ∙ bytes_guarded s c.self.inside.index refl (guards_are (the_view c.self.inside) c.self.inside.index.guards c.self.invariant.0 refl) in
     let fits = fits_of s c.args.self.now c.args.digest.now c.in_ok-gone.gone c.guarded_bytes-guarded.result c.digest.inside.size c.self.view_is c.self.invariant.1 c.requires.new c.requires.filled
-    held (ap (λ (x : HashAndSize). x.size) c.digest.view_is) c.if-size-high.false c.in_ok-gone.ensures in
+    held (ap (λ (x : HashAndSize). x.size) c.digest.view_is) c.if-guarded-size.false c.in_ok-gone.ensures in
     omega (arith, fits_small s c.args.digest.now c.args.edges.now c.in_ok-gone.gone fits, c.self.inside.marks.small)
 
 pub invariant_of-self-2 : goal.invariant_of-self-2
@@ -54,7 +54,7 @@ invariant_of-self-2 c =
     let edges = c.args.edges.now in
     let held = c.guarded_bytes-guarded.ensures ∙ bytes_guarded s c.self.inside.index refl (guards_are (the_view c.self.inside) c.self.inside.index.guards c.self.invariant.0 refl) in
     let fits = fits_of s c.args.self.now d c.in_ok-gone.gone c.guarded_bytes-guarded.result c.digest.inside.size c.self.view_is c.self.invariant.1 c.requires.new c.requires.filled
-    held (ap (λ (x : HashAndSize). x.size) c.digest.view_is) c.if-size-high.false c.in_ok-gone.ensures in
+    held (ap (λ (x : HashAndSize). x.size) c.digest.view_is) c.if-guarded-size.false c.in_ok-gone.ensures in
     let held_by = holder_after s.guard c.args.owner d s.holds c.holder-holder.result (c.holder-holder.ensures ∙ ap (λ (t : State). cond (is_session t.guard) (Some c.args.owner) None) (sym c.self.view_is)) c.requires.filled in
     let added = row_and_hold c.add.new.self c.self.inside.index.guards (without c.in_ok-gone.gone s.rows) d _ edges (with_holder c.holder-holder.result d s.holds) c.in_ok-add.ensures.ok c.as_ref.ensures.value in
     let left = without c.in_ok-gone.gone s.rows ++ new_row d edges ∷ [] in
@@ -70,7 +70,7 @@ returns-clause-ok c =
     let edges = c.args.edges.now in
     let held = c.guarded_bytes-guarded.ensures ∙ bytes_guarded s c.self.inside.index refl (guards_are (the_view c.self.inside) c.self.inside.index.guards c.self.invariant.0 refl) in
     let fits = fits_of s c.args.self.now d c.in_ok-gone.gone c.guarded_bytes-guarded.result c.digest.inside.size c.self.view_is c.self.invariant.1 c.requires.new c.requires.filled
-    held (ap (λ (x : HashAndSize). x.size) c.digest.view_is) c.if-size-high.false c.in_ok-gone.ensures in
+    held (ap (λ (x : HashAndSize). x.size) c.digest.view_is) c.if-guarded-size.false c.in_ok-gone.ensures in
     let held_by = holder_after s.guard c.args.owner d s.holds c.holder-holder.result (c.holder-holder.ensures ∙ ap (λ (t : State). cond (is_session t.guard) (Some c.args.owner) None) (sym c.self.view_is)) c.requires.filled in
     let added = row_and_hold c.add.new.self c.self.inside.index.guards (without c.in_ok-gone.gone s.rows) d _ edges (with_holder c.holder-holder.result d s.holds) c.in_ok-add.ensures.ok c.as_ref.ensures.value in
     let left = without c.in_ok-gone.gone s.rows ++ new_row d edges ∷ [] in
@@ -86,7 +86,7 @@ returns-clause-rows c =
     let edges = c.args.edges.now in
     let held = c.guarded_bytes-guarded.ensures ∙ bytes_guarded s c.self.inside.index refl (guards_are (the_view c.self.inside) c.self.inside.index.guards c.self.invariant.0 refl) in
     let fits = fits_of s c.args.self.now d c.in_ok-gone.gone c.guarded_bytes-guarded.result c.digest.inside.size c.self.view_is c.self.invariant.1 c.requires.new c.requires.filled
-    held (ap (λ (x : HashAndSize). x.size) c.digest.view_is) c.if-size-high.false c.in_ok-gone.ensures in
+    held (ap (λ (x : HashAndSize). x.size) c.digest.view_is) c.if-guarded-size.false c.in_ok-gone.ensures in
     let added = ap (λ (p : Parts). p.rows) c.in_ok-add.ensures.ok
     ∙ ap (λ (o : Option (List Edge)). without c.in_ok-gone.gone s.rows ++ new_row d o ∷ []) c.as_ref.ensures.value in
     subst (λ (t : State). PutsRow d (replies.Stored c.len.result c.used.result) c.in_ok-gone.gone t.rows c.add.new.self.rows) c.self.view_is
