@@ -58,6 +58,13 @@ const ROWS: &[Row<'static>] = &[
         0,
     ),
     (
+        "a path that is not served yet",
+        &[OPENING, ASKS_UNBUILT],
+        &[SETTINGS, ACK, BEGUN, NOT_BUILT, RESET],
+        ConnEnd::Done,
+        0,
+    ),
+    (
         "cancelled",
         &[OPENING, ASKS_BATCH, CANCEL],
         &[SETTINGS, ACK],

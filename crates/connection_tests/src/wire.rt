@@ -80,6 +80,14 @@ pub(crate) const NO_MESSAGE: &[u8] =
 pub(crate) const ASKS_UNKNOWN: &[u8] =
     b"\0\0\x1b\x01\x04\0\0\0\x01\x83\x86\x04\x04/a/B\x0f\x10\x10application/grpc";
 
+/// HEADERS of ByteStream's Read on stream 1.
+pub(crate) const ASKS_UNBUILT: &[u8] =
+    b"\0\0\x39\x01\x04\0\0\0\x01\x83\x86\x04\x22/google.bytestream.ByteStream/Read\x0f\x10\x10application/grpc";
+
+/// Trailers with status 12.
+pub(crate) const NOT_BUILT: &[u8] =
+    b"\0\0\x28\x01\x05\0\0\0\x01\0\x0bgrpc-status\x0212\0\x0cgrpc-message\x09not built";
+
 /// Trailers with status 12.
 pub(crate) const NO_SUCH_METHOD: &[u8] =
     b"\0\0\x2d\x01\x05\0\0\0\x01\0\x0bgrpc-status\x0212\0\x0cgrpc-message\x0eno such method";

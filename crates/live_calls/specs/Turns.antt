@@ -1,5 +1,5 @@
 -- What a call does when it begins, and when something happens to it.
-use Rattle.std.specs.Prelude.{◌≡◌, codes, ℕ, List, [], ◌∷◌, Option, Some, None, Result, Ok, Err}
+use Rattle.std.specs.Prelude.{◌≡◌, codes, ℕ, List, [], ◌∷◌, Option, Some, None, Result, Ok, Err, if◌then◌else◌}
 use Rattle.casd_base.specs.declared.code.Code.TheVariants as code
 use Rattle.casd_base.specs.declared.status.Status.{Status}
 use Rattle.cas_messages.specs.Table.{Value}
@@ -25,7 +25,7 @@ use Rattle.live_calls.specs.declared.happening.Happening.{Happening}
 use Rattle.live_calls.specs.declared.happening.Happening.TheVariants as happenings
 use Rattle.live_calls.specs.declared.outcome.Outcome.{Outcome}
 use Rattle.live_calls.specs.declared.outcome.Outcome.TheVariants as outcomes
-use Rattle.live_calls.specs.Methods.{method_of}
+use Rattle.live_calls.specs.Methods.{method_of, is_unbuilt}
 
 -- how a turn of a call ends
 abbrev pub Turn : Type 0
@@ -47,18 +47,18 @@ replied message = End (outcomes.Finishes (Some message) fine)
 abbrev pub wanting : Turn
 wanting = refused out_of_memory
 
--- no method has the path of the request
-abbrev pub no_method : Status
-no_method = record { code = code.Unimplemented; text = codes "no such method" }
+-- no method that is served has the path of the request
+abbrev pub no_method : List ℕ → Status
+no_method path = record { code = code.Unimplemented; text = if is_unbuilt path then codes "not built" else codes "no such method" }
 
 -- ---- a request begins
 
-abbrev pub begun_by : Option Method → Turn
-begun_by None = refused no_method
-begun_by (Some method) = waits (places.Unary method messages.Nothing)
+abbrev pub begun_by : List ℕ → Option Method → Turn
+begun_by path None = refused (no_method path)
+begun_by path (Some method) = waits (places.Unary method messages.Nothing)
 
 abbrev pub begun : List ℕ → Turn
-begun path = begun_by (method_of path)
+begun path = begun_by path (method_of path)
 
 -- ---- the one message of a unary call is answered
 

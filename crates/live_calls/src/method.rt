@@ -1,7 +1,9 @@
 //! The methods that are served, by their paths.
 
-ghost use Rattle.std.specs.Prelude.{◌≡◌};
-ghost use Rattle.live_calls.specs.Methods.{path_of, method_of};
+ghost use Rattle.std.specs.Prelude.{◌≡◌, nat_eq};
+ghost use Rattle.std.specs.List.{list_any};
+ghost use Rattle.std.specs.Cmp.Lexicographic.{pointwise};
+ghost use Rattle.live_calls.specs.Methods.{path_of, method_of, is_unbuilt};
 
 /// A method that is served. All are unary.
 #[derive(Clone, Copy, Debug, PartialEq, Eq)]
@@ -50,4 +52,34 @@ impl Method {
             .copied()
             .find(|method| method.path().as_bytes() == path)
     }
+}
+
+/// The paths of the methods that are not served yet.
+const UNBUILT: [&str; 11] = [
+    "/build.bazel.remote.execution.v2.ContentAddressableStorage/GetTree",
+    "/google.bytestream.ByteStream/Read",
+    "/google.bytestream.ByteStream/Write",
+    "/google.bytestream.ByteStream/QueryWriteStatus",
+    "/build.buildgrid.LocalContentAddressableStorage/FetchMissingBlobs",
+    "/build.buildgrid.LocalContentAddressableStorage/UploadMissingBlobs",
+    "/build.buildgrid.LocalContentAddressableStorage/FetchTree",
+    "/build.buildgrid.LocalContentAddressableStorage/UploadTree",
+    "/build.buildgrid.LocalContentAddressableStorage/StageTree",
+    "/build.buildgrid.LocalContentAddressableStorage/CaptureTree",
+    "/build.buildgrid.LocalContentAddressableStorage/CaptureFiles",
+];
+
+/// Whether a path is one of these.
+fn is_one_of(paths: &[&str], path: &[u8]) -> bool
+    ensures { result ≡ list_any (λ p. pointwise nat_eq p.now path.now) paths.now }
+{
+    paths.iter().any(|one| one.as_bytes() == path)
+}
+
+/// Whether a path is that of a method which is not served yet.
+#[tactic(auto, unfolding(crate::specs::Methods::is_unbuilt))]
+pub(crate) fn is_unbuilt(path: &[u8]) -> bool
+    ensures { result ≡ is_unbuilt path.now }
+{
+    is_one_of(&UNBUILT, path)
 }

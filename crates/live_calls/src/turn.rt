@@ -6,7 +6,7 @@ ghost use Rattle.cas_calls.specs.Plays.{Plays};
 ghost use Rattle.live_calls.specs.Turns.{begun, answered, answered_with, one_more, unary_turn, turn_at, no_method};
 
 use crate::happening::Happening;
-use crate::method::Method;
+use crate::method::{Method, is_unbuilt};
 use crate::outcome::{Outcome, refuse};
 use crate::place::{Messages, Place};
 use crate::{batch, caps, find, read};
@@ -16,12 +16,17 @@ use casd_base::{Code, Status};
 use proto_wire::{Bytes, Text};
 use std::alloc::Global;
 
-fn no_method() -> Status
-    ensures { result ≡ no_method }
+fn no_method(path: &[u8]) -> Status
+    ensures { result ≡ no_method path.now }
 {
+    let text = if is_unbuilt(path) {
+        Text::short("not built")
+    } else {
+        Text::short("no such method")
+    };
     Status {
         code: Code::Unimplemented,
-        text: Text::short("no such method"),
+        text,
     }
 }
 
@@ -34,7 +39,7 @@ pub fn begin(path: &[u8]) -> Outcome
             method,
             messages: Messages::Nothing,
         }),
-        None => refuse(no_method()),
+        None => refuse(no_method(path)),
     }
 }
 
