@@ -13,6 +13,7 @@ use crate::sink::SinkEnd;
 use crate::source::Failed;
 use crate::standard::{read_counted, write_counted};
 use std::io::{Read, Write};
+use std::mem;
 
 /// A link over one value that reads and writes, such as a socket. It tells none of the bytes and counts each real fault,
 /// as `StdSource` and `StdSink` do, and tells where the end was met as long as fewer than 2^63 bytes were written.
@@ -37,6 +38,15 @@ impl<T: Read + Write> StreamLink<T> {
             sent: 0,
             ended: None,
         }
+    }
+
+    /// Takes the inner value out and puts another in its place, as where a socket is to be closed. What was counted stays. It
+    /// takes no memory.
+    pub fn replace(&mut self, inner: T) -> T
+        ensures value { result ≡ self.old.inner }
+        ensures rest { self.new ≡ record self.old { inner = inner } }
+    {
+        mem::replace(&mut self.inner, inner)
     }
 }
 
