@@ -1,0 +1,9 @@
+pub mod Closes
+pub mod Histories
+pub mod OneConn
+pub mod OneWorker
+pub mod Runs
+pub mod Serves
+pub mod Tops
+pub mod UseLists
+pub mod WordLaws
