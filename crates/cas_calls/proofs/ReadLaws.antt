@@ -32,13 +32,13 @@ use Rattle.cas_calls.proofs.TakeLaws.{took_none, took_joined, took_more, is_in_a
 
 -- a call of the shelf that gives nothing up
 pub leaves_stays : (x y : Shelved) → Stays x y → Leaves x y
-leaves_stays x y h = record { discarded = h.discarded; may_fail = h.may_fail; later = h.later }
+leaves_stays x y h = record { discarded = h.discarded; may_fail = h.may_fail; later = h.later; dropped = omega (arith, h.dropped) }
 
 pub leaves_none : (x : Shelved) → Leaves x x
-leaves_none x = record { discarded = refl; may_fail = refl; later = omega arith }
+leaves_none x = record { discarded = refl; may_fail = refl; later = omega arith; dropped = omega arith }
 
 pub leaves_joined : (x y z : Shelved) → Leaves x y → Leaves y z → Leaves x z
-leaves_joined x y z p q = record { discarded = q.discarded ∙ p.discarded; may_fail = q.may_fail ∙ p.may_fail; later = omega (arith, p.later, q.later) }
+leaves_joined x y z p q = record { discarded = q.discarded ∙ p.discarded; may_fail = q.may_fail ∙ p.may_fail; later = omega (arith, p.later, q.later); dropped = omega (arith, p.dropped, q.dropped) }
 
 -- ---- FindMissingBlobs
 
@@ -66,7 +66,7 @@ took_whole d bytes v x y next h leaves is =
     let rest : Took (body_script d next (Gave bytes)) v v y y 1 (next (read_answer d bytes)) =
     rw (same_from_equal d (digest_of bytes) (sym is)) (took_more (next (read_answer d bytes)) (next (read_answer d bytes)) v v y y 0 1 (omega arith) (took_none (next (read_answer d bytes)) v y h)) in
     took_fit wanting (Ask (Whole d) (body_script d next)) (next (read_answer d bytes)) v v x y 1
-    (took_told (Whole d) (Gave bytes) (body_script d next) (next (read_answer d bytes)) v v x y y 1 refl refl leaves rest)
+    (took_told (Whole d) (Gave bytes) (body_script d next) (next (read_answer d bytes)) v v x y y 1 refl refl refl tt leaves rest)
 
 pub took_damaged : (d got : HashAndSize) (bytes : List ℕ) (v w : View) (x y : Shelved) (next : Next) → Leaves x y → got ≡ digest_of bytes → got ≢ d → Makes v w (events.Damage d) replies.Marked
     → Took (entry_script d next replies.Found) v w x y 1 (next (unread_answer d (damaged d got)))
@@ -76,13 +76,13 @@ took_damaged d got bytes v w x y next leaves is other makes =
     let rest : Took (body_script d next (Gave bytes)) v w y y 1 (next (unread_answer d (damaged d (digest_of bytes)))) = rw (not_same_from_other d (digest_of bytes) (λ e. other (is ∙ sym e))) notes in
     subst (λ (g : HashAndSize). Took (entry_script d next replies.Found) v w x y 1 (next (unread_answer d (damaged d g)))) (sym is)
     (took_fit wanting (Ask (Whole d) (body_script d next)) (next (unread_answer d (damaged d (digest_of bytes)))) v w x y 1
-    (took_told (Whole d) (Gave bytes) (body_script d next) (next (unread_answer d (damaged d (digest_of bytes)))) v w x y y 1 refl refl leaves rest))
+    (took_told (Whole d) (Gave bytes) (body_script d next) (next (unread_answer d (damaged d (digest_of bytes)))) v w x y y 1 refl refl refl tt leaves rest))
 
 pub took_unread : (d : HashAndSize) (v : View) (x y : Shelved) (next : Next) → IsIn v → Leaves x y → Lapses x y
     → Took (entry_script d next replies.Found) v v x y 1 (next (unread_answer d store_fault))
 took_unread d v x y next h leaves lapses =
     took_more (entry_script d next replies.Found) (next (unread_answer d store_fault)) v v x y 0 1 (omega arith)
-    (took_fit wanting (Ask (Whole d) (body_script d next)) (next (unread_answer d store_fault)) v v x y 0 (took_lapsed (Whole d) (body_script d next) v x y refl h leaves lapses))
+    (took_fit wanting (Ask (Whole d) (body_script d next)) (next (unread_answer d store_fault)) v v x y 0 (took_lapsed (Whole d) (body_script d next) v x y refl refl tt h leaves lapses))
 
 pub wanting_body : (d : HashAndSize) (v : View) (x y : Shelved) (next : Next) → IsIn v → Leaves x y → Took (entry_script d next replies.Found) v v x y 1 wanting
 wanting_body d v x y next h leaves =
@@ -116,7 +116,7 @@ pub took_entry : (d : HashAndSize) (reply : Reply) (t : Script Answered) (u v w 
 took_entry d reply t u v w x y z n next leaves makes rest =
     let made : Took (Make (events.Read d) (entry_script d next)) u v y y 1 (entry_script d next reply) = took_made (events.Read d) (entry_script d next) u v y y reply makes refl (λ owner leases. refl) in
     let all : Took (Make (events.Read d) (entry_script d next)) u w y z (1 + n) t = took_joined (Make (events.Read d) (entry_script d next)) (entry_script d next reply) t u v w y y z 1 n made rest in
-    took_fit wanting (Ask (Reader d) (reader_script d next)) t u w x z (1 + n) (took_told (Reader d) Did (reader_script d next) t u w x y z (1 + n) refl refl leaves all)
+    took_fit wanting (Ask (Reader d) (reader_script d next)) t u w x z (1 + n) (took_told (Reader d) Did (reader_script d next) t u w x y z (1 + n) refl refl refl tt leaves all)
 
 pub took_absent : (d : HashAndSize) (v w : View) (x y : Shelved) (next : Next) → Leaves x y → Makes v w (events.Read d) replies.Absent → Took (blob_script d next) v w x y 2 (next (unread_answer d (not_here d)))
 took_absent d v w x y next leaves makes =
@@ -131,7 +131,7 @@ pub took_fault : (d : HashAndSize) (v w : View) (x y : Shelved) (next : Next) �
 took_fault d v w x y next waits leaves lapses =
     let s = blob_script d next in
     let t = next (unread_answer d store_fault) in
-    let rest : Took s w w x y 0 t = took_fit wanting (Ask (Reader d) (reader_script d next)) t w w x y 0 (took_lapsed (Reader d) (reader_script d next) w x y refl (in_after v w waits) leaves lapses) in
+    let rest : Took s w w x y 0 t = took_fit wanting (Ask (Reader d) (reader_script d next)) t w w x y 0 (took_lapsed (Reader d) (reader_script d next) w x y refl refl tt (in_after v w waits) leaves lapses) in
     took_more s t v w x y (1 + 0) 2 (omega arith) (took_joined s s t v w w x x y 1 0 (took_waited s v w x waits) rest)
 
 pub wanting_blob : (d : HashAndSize) (v w : View) (x y : Shelved) (next : Next) → Waits v w → Leaves x y → Took (blob_script d next) v w x y 2 wanting

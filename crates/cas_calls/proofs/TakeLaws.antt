@@ -7,11 +7,11 @@ use Rattle.store_core.specs.declared.event.Event.TheVariants as events
 use Rattle.store_core.specs.declared.event.Reply.{Reply}
 use Rattle.blob_store.specs.Applied.{gives_up}
 use Rattle.blob_store.specs.View.{View, Turns, Makes, Waits, own_now}
-use Rattle.blob_store.specs.Shelves.{Shelved, counting, discarding}
+use Rattle.blob_store.specs.Shelves.{Shelved, counting, discarding, dropping}
 use Rattle.store_core.specs.declared.state.Lease.{Lease}
 use Rattle.store_core.specs.History.{own_after}
 use Rattle.blob_store.proofs.ViewLaws.{turns_joined, turns_more, turns_none, own_now_after}
-use Rattle.cas_calls.specs.Script.{Script, End, Make, Room, Ask, Asked, Keep, Discard, Reader, Whole, Told, Did, Failed, Gave, and_then, Step, Made, Heard, Fit, Broke, Takes, after, Follows, made, failure, failures, discard, discards}
+use Rattle.cas_calls.specs.Script.{Script, End, Make, Room, Ask, Asked, Keep, Discard, Reader, Whole, More, Rest, Draft, Add, Seal, Drop, Told, Did, Failed, IsTold, and_then, Step, Made, Heard, Fit, Broke, Takes, after, Follows, made, failure, failures, discard, discards, drop, drops}
 use Rattle.cas_calls.specs.Plays.{IsIn, Shelves, Took, Leaves, Lapses}
 
 -- ---- steps one after the other
@@ -37,6 +37,13 @@ discards-append (Heard asked told ∷ xs) ys = omega (arith, discards-append xs 
 discards-append (Fit ∷ xs) ys = discards-append xs ys
 discards-append (Broke ∷ xs) ys = discards-append xs ys
 
+drops-append : (xs ys : List Step) → drops (xs ++ ys) ≡ drops xs + drops ys
+drops-append [] ys = omega arith
+drops-append (Made event reply ∷ xs) ys = drops-append xs ys
+drops-append (Heard asked told ∷ xs) ys = omega (arith, drops-append xs ys)
+drops-append (Fit ∷ xs) ys = drops-append xs ys
+drops-append (Broke ∷ xs) ys = drops-append xs ys
+
 follows_joined : {A : Type 0} (s : Script A) (xs : List Step) (t : Script A) (ys : List Step) (u : Script A) → Follows s xs t → Follows t ys u → Follows s (xs ++ ys) u
 follows_joined s [] t ys u p q = subst (λ x. Follows x ys u) (sym p) q
 follows_joined s (x ∷ xs) t ys u p q = (p.0, follows_joined (after s x) xs t ys u p.1 q)
@@ -61,11 +68,12 @@ counted (suc m) (suc n) k = capped ∙ ap (λ (j : ℕ). counting j k) sum
     sum = omega arith
 
 pub shelves_none : (x : Shelved) → Shelves x x []
-shelves_none x = record { faults = omega arith; later = omega arith; may_fail = refl; sure = λ h. refl; discarded = refl }
+shelves_none x = record { faults = omega arith; later = omega arith; may_fail = refl; sure = λ h. refl; discarded = refl; dropped = omega arith }
 
 pub shelves_joined : (x y z : Shelved) (xs ys : List Step) → Shelves x y xs → Shelves y z ys → Shelves x z (xs ++ ys)
 shelves_joined x y z xs ys p q =
     let n = failures-append xs ys in
+    let d = drops-append xs ys in
     record {
       faults = omega (arith, p.faults, q.faults, n);
       later = omega (arith, p.later, q.later);
@@ -76,6 +84,7 @@ shelves_joined x y z xs ys p q =
           ∙ ap (λ (k : ℕ). counting (discards ys) k) p.discarded
           ∙ counted (discards xs) (discards ys) x.discarded
           ∙ ap (λ (k : ℕ). counting k x.discarded) (sym (discards-append xs ys));
+      dropped = omega (arith, p.dropped, q.dropped, d);
     }
 
 -- ---- places of a script one after the other
@@ -115,17 +124,17 @@ left_after s t v w x y n p = p.entries.used
 
 -- memory was there, and the rest was done
 pub took_fit : {A : Type 0} (wanting s t : Script A) (v w : View) (x y : Shelved) (n : ℕ) → Took s v w x y n t → Took (Room wanting s) v w x y n t
-took_fit wanting s t v w x y n p = record { steps = Fit ∷ p.steps; follows = (tt, p.follows); entries = p.entries; shelf = record { faults = p.shelf.faults; later = p.shelf.later; may_fail = p.shelf.may_fail; sure = p.shelf.sure; discarded = p.shelf.discarded }; leases = p.leases }
+took_fit wanting s t v w x y n p = record { steps = Fit ∷ p.steps; follows = (tt, p.follows); entries = p.entries; shelf = record { faults = p.shelf.faults; later = p.shelf.later; may_fail = p.shelf.may_fail; sure = p.shelf.sure; discarded = p.shelf.discarded; dropped = p.shelf.dropped }; leases = p.leases }
 
 -- it was wanting
 pub took_broke : {A : Type 0} (wanting s t : Script A) (v w : View) (x y : Shelved) (n : ℕ) → Took wanting v w x y n t → Took (Room wanting s) v w x y n t
-took_broke wanting s t v w x y n p = record { steps = Broke ∷ p.steps; follows = (tt, p.follows); entries = p.entries; shelf = record { faults = p.shelf.faults; later = p.shelf.later; may_fail = p.shelf.may_fail; sure = p.shelf.sure; discarded = p.shelf.discarded }; leases = p.leases }
+took_broke wanting s t v w x y n p = record { steps = Broke ∷ p.steps; follows = (tt, p.follows); entries = p.entries; shelf = record { faults = p.shelf.faults; later = p.shelf.later; may_fail = p.shelf.may_fail; sure = p.shelf.sure; discarded = p.shelf.discarded; dropped = p.shelf.dropped }; leases = p.leases }
 
 -- a call of the shelf that gives no body up, and then the rest
-pub took_told : {A : Type 0} (asked : Asked) (told : Told) (k : Told → Script A) (t : Script A) (v w : View) (x y z : Shelved) (n : ℕ) → discard asked ≡ 0 → failure told ≡ 0 → Leaves x y → Took (k told) v w y z n t → Took (Ask asked k) v w x z n t
-took_told asked told k t v w x y z n keeps well leaves p = record {
+pub took_told : {A : Type 0} (asked : Asked) (told : Told) (k : Told → Script A) (t : Script A) (v w : View) (x y z : Shelved) (n : ℕ) → discard asked ≡ 0 → drop asked ≡ 0 → failure told ≡ 0 → IsTold asked told → Leaves x y → Took (k told) v w y z n t → Took (Ask asked k) v w x z n t
+took_told asked told k t v w x y z n keeps holds well so leaves p = record {
   steps = Heard asked told ∷ p.steps;
-  follows = (refl, p.follows);
+  follows = ((refl, so), p.follows);
   entries = p.entries;
   shelf = record {
     faults = omega (arith, p.shelf.faults, leaves.later, well);
@@ -133,6 +142,7 @@ took_told asked told k t v w x y z n keeps well leaves p = record {
     may_fail = p.shelf.may_fail ∙ leaves.may_fail;
     sure = λ h. omega (arith, p.shelf.sure (leaves.may_fail ∙ h), well);
     discarded = p.shelf.discarded ∙ ap (λ (k : ℕ). counting (discards p.steps) k) leaves.discarded ∙ ap (λ (n : ℕ). counting n x.discarded) (plain (discard asked) (discards p.steps) keeps);
+    dropped = omega (arith, p.shelf.dropped, leaves.dropped, holds);
   };
   leases = p.leases;
 }
@@ -141,16 +151,16 @@ took_told asked told k t v w x y z n keeps well leaves p = record {
     plain m n e = omega (arith, e)
 
 pub took_kept : {A : Type 0} (bytes : List ℕ) (k : Told → Script A) (t : Script A) (v w : View) (x y z : Shelved) (n : ℕ) → Leaves x y → Took (k Did) v w y z n t → Took (Ask (Keep bytes) k) v w x z n t
-took_kept bytes k t v w x y z n leaves p = took_told (Keep bytes) Did k t v w x y z n refl refl leaves p
+took_kept bytes k t v w x y z n leaves p = took_told (Keep bytes) Did k t v w x y z n refl refl refl tt leaves p
 
 no_lapse : (x : Shelved) → x.may_fail ≡ true → x.may_fail ≡ false → ⊥
 no_lapse x p q = cc
 
 -- one that failed
-pub took_lapsed : {A : Type 0} (asked : Asked) (k : Told → Script A) (v : View) (x y : Shelved) → discard asked ≡ 0 → IsIn v → Leaves x y → Lapses x y → Took (Ask asked k) v v x y 0 (k Failed)
-took_lapsed asked k v x y keeps h leaves lapses = record {
+pub took_lapsed : {A : Type 0} (asked : Asked) (k : Told → Script A) (v : View) (x y : Shelved) → discard asked ≡ 0 → drop asked ≡ 0 → IsTold asked Failed → IsIn v → Leaves x y → Lapses x y → Took (Ask asked k) v v x y 0 (k Failed)
+took_lapsed asked k v x y keeps holds so h leaves lapses = record {
   steps = Heard asked Failed ∷ [];
-  follows = (refl, refl);
+  follows = ((refl, so), refl);
   entries = turns_none v h.seated.number h.is_in h.seated.owner h.seated.is_own;
   shelf = record {
     faults = lapses.1;
@@ -158,6 +168,7 @@ took_lapsed asked k v x y keeps h leaves lapses = record {
     may_fail = leaves.may_fail;
     sure = λ q. absurd (no_lapse x lapses.0 q);
     discarded = leaves.discarded ∙ ap (λ (n : ℕ). counting n x.discarded) (plain (discard asked) keeps);
+    dropped = omega (arith, leaves.dropped, holds);
   };
   leases = refl;
 }
@@ -166,7 +177,24 @@ took_lapsed asked k v x y keeps h leaves lapses = record {
     plain m e = omega (arith, e)
 
 pub took_failed : {A : Type 0} (bytes : List ℕ) (k : Told → Script A) (v : View) (x y : Shelved) → IsIn v → Leaves x y → Lapses x y → Took (Ask (Keep bytes) k) v v x y 0 (k Failed)
-took_failed bytes k v x y h leaves lapses = took_lapsed (Keep bytes) k v x y refl h leaves lapses
+took_failed bytes k v x y h leaves lapses = took_lapsed (Keep bytes) k v x y refl refl tt h leaves lapses
+
+-- a draft is given up
+pub took_dropped : {A : Type 0} (k : Told → Script A) (v : View) (x y : Shelved) → IsIn v → y ≡ dropping x → Took (Ask Drop k) v v x y 0 (k Did)
+took_dropped k v x y h e = record {
+  steps = Heard Drop Did ∷ [];
+  follows = ((refl, tt), refl);
+  entries = turns_none v h.seated.number h.is_in h.seated.owner h.seated.is_own;
+  shelf = record {
+    faults = omega (arith, ap (λ (s : Shelved). s.faults) e);
+    later = omega (arith, ap (λ (s : Shelved). s.faults) e);
+    may_fail = ap (λ (s : Shelved). s.may_fail) e;
+    sure = λ q. refl;
+    discarded = ap (λ (s : Shelved). s.discarded) e;
+    dropped = omega (arith, ap (λ (s : Shelved). s.dropped) e);
+  };
+  leases = refl;
+}
 
 -- a turn without an entry
 pub took_waited : {A : Type 0} (s : Script A) (v w : View) (x : Shelved) → Waits v w → Took s v w x x 1 s
@@ -178,7 +206,7 @@ took_wanting wanting s v x y h leaves = record {
   steps = Broke ∷ [];
   follows = (tt, refl);
   entries = turns_none v h.seated.number h.is_in h.seated.owner h.seated.is_own;
-  shelf = record { faults = omega (arith, leaves.later); later = leaves.later; may_fail = leaves.may_fail; sure = λ q. refl; discarded = leaves.discarded };
+  shelf = record { faults = omega (arith, leaves.later); later = leaves.later; may_fail = leaves.may_fail; sure = λ q. refl; discarded = leaves.discarded; dropped = omega (arith, leaves.dropped) };
   leases = refl;
 }
 
@@ -186,7 +214,7 @@ took_wanting wanting s v x y h leaves = record {
 pub took_discarded : {A : Type 0} (k : Told → Script A) (v : View) (x y : Shelved) → IsIn v → y ≡ discarding 1 x → Took (Ask Discard k) v v x y 0 (k Did)
 took_discarded k v x y h e = record {
   steps = Heard Discard Did ∷ [];
-  follows = (refl, refl);
+  follows = ((refl, tt), refl);
   entries = turns_none v h.seated.number h.is_in h.seated.owner h.seated.is_own;
   shelf = record {
     faults = omega (arith, ap (λ (s : Shelved). s.faults) e);
@@ -194,6 +222,7 @@ took_discarded k v x y h e = record {
     may_fail = ap (λ (s : Shelved). s.may_fail) e;
     sure = λ q. refl;
     discarded = ap (λ (s : Shelved). s.discarded) e;
+    dropped = omega (arith, ap (λ (s : Shelved). s.dropped) e);
   };
   leases = refl;
 }
@@ -211,6 +240,7 @@ took_made event k v w x y reply makes e same = record {
     may_fail = ap (λ (s : Shelved). s.may_fail) e;
     sure = λ q. refl;
     discarded = ap (λ (s : Shelved). s.discarded) e ∙ ap (λ (n : ℕ). counting n x.discarded) (one_more (gives_up {E = Unit {0}} event (Ok reply)));
+    dropped = omega (arith, ap (λ (s : Shelved). s.dropped) e);
   };
   leases = own_now_after v w 1 ((event, reply) ∷ []) makes.turns ∙ same makes.turns.owner (own_now v);
 }
@@ -222,7 +252,7 @@ took_made event k v w x y reply makes e same = record {
 pub took_refused : {A : Type 0} (s wanting : Script A) (v w : View) (x y : Shelved) → Waits v w → y ≡ discarding 1 x → Took (Room (Ask Discard (λ told. wanting)) s) v w x y 1 wanting
 took_refused s wanting v w x y waits e = record {
   steps = Broke ∷ Heard Discard Did ∷ [];
-  follows = (tt, (refl, refl));
+  follows = (tt, ((refl, tt), refl));
   entries = waits;
   shelf = record {
     faults = omega (arith, ap (λ (s : Shelved). s.faults) e);
@@ -230,6 +260,7 @@ took_refused s wanting v w x y waits e = record {
     may_fail = ap (λ (s : Shelved). s.may_fail) e;
     sure = λ q. refl;
     discarded = ap (λ (s : Shelved). s.discarded) e;
+    dropped = omega (arith, ap (λ (s : Shelved). s.dropped) e);
   };
   leases = own_now_after v w 1 [] waits;
 }

@@ -1,3 +1,4 @@
+pub mod Bodies
 pub mod Script
 pub mod Plays
 pub mod Statuses

@@ -3,7 +3,7 @@ use Rattle.std.specs.Prelude.{◌≡◌, ◌+◌, ◌-◌, ◌^◌, ◌≤◌, m
 use Rattle.casd_base.specs.Causes.{Rose}
 use Rattle.blob_store.specs.View.{View, Turns, IsSeated, own_now}
 use Rattle.blob_store.specs.Shelves.{Shelved, counting}
-use Rattle.cas_calls.specs.Script.{Script, Step, End, Follows, made, failures, discards}
+use Rattle.cas_calls.specs.Script.{Script, Step, End, Follows, made, failures, discards, drops}
 
 -- the door is entered, and its owner's entries are its own
 pub record IsIn (v : View) : Type 0 where
@@ -11,13 +11,14 @@ pub record IsIn (v : View) : Type 0 where
   pub seated : IsSeated v
 
 -- The shelf did what these steps tell: its count of faults rose by each failure, up to its last value, there is none where its
--- calls don't fail, and it gave up as many bodies as they say.
+-- calls don't fail, and it gave up as many bodies as they say, and at least as many drafts.
 pub record Shelves (old new : Shelved) (steps : List Step) : Type 0 where
   pub faults : min (old.faults + failures steps) (2 ^ 64 - 1) ≤ new.faults
   pub later : old.faults ≤ new.faults
   pub may_fail : new.may_fail ≡ old.may_fail
   pub sure : old.may_fail ≡ false → failures steps ≡ 0
   pub discarded : new.discarded ≡ counting (discards steps) old.discarded
+  pub dropped : min (old.dropped + drops steps) (2 ^ 64 - 1) ≤ new.dropped
 
 -- Steps of the script lead from one place to another: its entries were made at the door in at most so many turns, and the shelf
 -- did the rest. No lease was taken or given up.
@@ -32,11 +33,12 @@ pub record Took {A : Type 0} (s : Script A) (v w : View) (x y : Shelved) (turns 
 abbrev pub Plays : {A : Type 0} → Script A → View → View → Shelved → Shelved → ℕ → A → Type 0
 Plays s v w x y turns answer = Took s v w x y turns (End answer)
 
--- a call of the shelf that gives no body up
+-- a call of the shelf that gives no body up, though perhaps a draft
 pub record Leaves (old new : Shelved) : Type 0 where
   pub discarded : new.discarded ≡ old.discarded
   pub may_fail : new.may_fail ≡ old.may_fail
   pub later : old.faults ≤ new.faults
+  pub dropped : min old.dropped (2 ^ 64 - 1) ≤ new.dropped
 
 -- one that fails besides: its calls may fail, and it was counted
 abbrev pub Lapses : Shelved → Shelved → Type 0
