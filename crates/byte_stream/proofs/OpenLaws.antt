@@ -1,6 +1,6 @@
 -- A Read that begins, and one that gives no further bytes.
 use Rattle.std.proofs.Common.{◌≡◌, ◌≤◌, ◌+◌, ◌∙◌, ℕ, List, Option, Some, None, Result, Ok, Err, refl, sym, ap, subst, inl, inr, arith}
-use Rattle.std.specs.Prelude.{◌⊎◌}
+use Rattle.std.specs.Prelude.{◌⊎◌, IfSome}
 use Rattle.casd_base.specs.declared.status.Status.{Status}
 use Rattle.digest_types.specs.Name.{HashAndSize}
 use Rattle.cas_messages.specs.declared.byte_stream.ReadRequest.{ReadRequest}
@@ -8,10 +8,10 @@ use Rattle.store_core.specs.declared.event.Event.TheVariants as events
 use Rattle.store_core.specs.declared.event.Reply.{Reply}
 use Rattle.store_core.specs.declared.event.Reply.TheVariants as replies
 use Rattle.blob_store.specs.Bodies.{ReadingState}
-use Rattle.blob_store.specs.Calls.{read_reply}
+use Rattle.blob_store.specs.Calls.{read_reply, Begins}
 use Rattle.blob_store.specs.View.{View, Makes, Waits}
 use Rattle.blob_store.specs.Shelves.{Shelved}
-use Rattle.cas_calls.specs.Script.{Script, End, Make, Room, Ask, Reader, Did}
+use Rattle.cas_calls.specs.Script.{Script, End, Make, Room, Ask, Reader, Told, Did, Began, IsTold, failure}
 use Rattle.cas_calls.specs.Plays.{IsIn, Took, Plays, Leaves, Lapses}
 use Rattle.cas_calls.specs.Statuses.{out_of_memory, store_fault, not_here}
 use Rattle.cas_calls.proofs.ReadLaws.{made_found, made_absent}
@@ -21,25 +21,29 @@ use Rattle.byte_stream.specs.declared.read_stop.ReadStop.{ReadStop}
 use Rattle.byte_stream.specs.declared.read_stop.ReadStop.TheVariants as stops
 use Rattle.byte_stream.specs.Here.{IsAbsent}
 use Rattle.byte_stream.specs.Places.{place_of}
-use Rattle.byte_stream.specs.Read.{Opened, unopened, entry_script, reader_script, opening_script, begin_script, Answered, wanting, stop_script, stop_answer, Keeps}
+use Rattle.byte_stream.specs.Read.{Opened, unopened, ReadState, begun_at, entry_script, reader_script, opening_script, begin_script, Answered, Turned, standing, wanting, stop_script, stop_answer, Keeps}
 
 -- the entry, and what follows it
-opened_by : (p : Place) (reply : Reply) (t : Script Opened) (v w : View) (x y : Shelved) → Leaves x y → Makes v w (events.Read p.digest) reply → (IsIn w → Took (entry_script p reply) w w y y 0 t) → Took (opening_script (Ok p)) v w x y 1 t
-opened_by p reply t v w x y leaves makes rest =
-    let entry = Make (events.Read p.digest) (entry_script p) in
-    let made : Took entry v w y y 1 (entry_script p reply) = took_made (events.Read p.digest) (entry_script p) v w y y reply makes refl (λ owner leases. refl) in
-    let all : Took entry v w y y (1 + 0) t = took_joined entry (entry_script p reply) t v w w y y y 1 0 made (rest (is_in_after entry (entry_script p reply) v w y y 1 made)) in
-    took_fit unopened (Ask (Reader p.digest) (reader_script p)) t v w x y 1 (took_told (Reader p.digest) Did (reader_script p) t v w x y y 1 refl refl leaves all)
+opened_by : (p : Place) (told : Told) (o : Option ReadingState) (reply : Reply) (t : Script Opened) (v w : View) (x y : Shelved) → reader_script p told ≡ Make (events.Read p.digest) (entry_script p o) → failure told ≡ 0 → IsTold (Reader p.digest) told → Leaves x y → Makes v w (events.Read p.digest) reply
+    → (IsIn w → Took (entry_script p o reply) w w y y 0 t) → Took (opening_script (Ok p)) v w x y 1 t
+opened_by p told o reply t v w x y is well so leaves makes rest =
+    let entry = Make (events.Read p.digest) (entry_script p o) in
+    let made : Took entry v w y y 1 (entry_script p o reply) = took_made (events.Read p.digest) (entry_script p o) v w y y reply makes refl (λ owner leases. refl) in
+    let all : Took entry v w y y (1 + 0) t = took_joined entry (entry_script p o reply) t v w w y y y 1 0 made (rest (is_in_after entry (entry_script p o reply) v w y y 1 made)) in
+    took_fit unopened (Ask (Reader p.digest) (reader_script p)) t v w x y 1
+    (took_told (Reader p.digest) told (reader_script p) t v w x y y 1 refl refl well so leaves (subst (λ (s : Script Opened). Took s v w y y 1 t) (sym is) all))
 
-pub open_found : (p : Place) (o : Option ReadingState) (reading : ReadingState) (v w : View) (x y : Shelved) → Leaves x y → o ≡ Some reading → Makes v w (events.Read p.digest) (read_reply o) → Plays (opening_script (Ok p)) v w x y 1 (Ok p)
-open_found p o reading v w x y leaves is makes = opened_by p replies.Found (End (Ok p)) v w x y leaves (made_found v w p.digest o reading is makes) (λ h. took_none (End (Ok p)) w y h)
+pub open_found : (p : Place) (o : Option ReadingState) (reading : ReadingState) (v w : View) (x y : Shelved) → Leaves x y → o ≡ Some reading → IfSome o (Begins p.digest) → Makes v w (events.Read p.digest) (read_reply o) → Plays (opening_script (Ok p)) v w x y 1 (Ok (begun_at p reading))
+open_found p o reading v w x y leaves is begins makes =
+    let t : Script Opened = End (Ok (begun_at p reading)) in
+    opened_by p (Began reading) (Some reading) replies.Found t v w x y refl refl (subst (λ (q : Option ReadingState). IfSome q (Begins p.digest)) is begins) leaves (made_found v w p.digest o reading is makes) (λ h. took_none t w y h)
 
 told_absent : (d : HashAndSize) (status : Status) (w : View) (y : Shelved) → IsIn w → IsAbsent d status → Took (Room unopened (End (Err (not_here d)))) w w y y 0 (End (Err status))
 told_absent d status w y h (inl e) = rw e (took_fit unopened (End (Err (not_here d))) (End (Err (not_here d))) w w y y 0 (took_none (End (Err (not_here d))) w y h))
 told_absent d status w y h (inr e) = rw e (took_broke unopened (End (Err (not_here d))) unopened w w y y 0 (took_none unopened w y h))
 
 pub open_absent : (p : Place) (o : Option ReadingState) (status : Status) (v w : View) (x y : Shelved) → Leaves x y → o ≡ None → Makes v w (events.Read p.digest) (read_reply o) → IsAbsent p.digest status → Plays (opening_script (Ok p)) v w x y 1 (Err status)
-open_absent p o status v w x y leaves is makes absent = opened_by p replies.Absent (End (Err status)) v w x y leaves (made_absent v w p.digest o is makes) (λ h. told_absent p.digest status w y h absent)
+open_absent p o status v w x y leaves is makes absent = opened_by p Did None replies.Absent (End (Err status)) v w x y refl refl tt leaves (made_absent v w p.digest o is makes) (λ h. told_absent p.digest status w y h absent)
 
 in_after : (v w : View) → Waits v w → IsIn w
 in_after v w waits = record { is_in = waits.is_in; seated = record { number = waits.owner; owner = waits.same_owner ∙ waits.is_owner; is_own = waits.is_own } }
@@ -48,7 +52,7 @@ pub open_fault : (p : Place) (status : Status) (v w : View) (x y : Shelved) → 
 open_fault p status v w x y waits leaves lapses is =
     let s = opening_script (Ok p) in
     let t : Script Opened = End (Err store_fault) in
-    let rest : Took s w w x y 0 t = took_fit unopened (Ask (Reader p.digest) (reader_script p)) t w w x y 0 (took_lapsed (Reader p.digest) (reader_script p) w x y refl (in_after v w waits) leaves lapses) in
+    let rest : Took s w w x y 0 t = took_fit unopened (Ask (Reader p.digest) (reader_script p)) t w w x y 0 (took_lapsed (Reader p.digest) (reader_script p) w x y refl refl tt (in_after v w waits) leaves lapses) in
     rw is (took_more s t v w x y (1 + 0) 1 (omega arith) (took_joined s s t v w w x x y 1 0 (took_waited s v w x waits) rest))
 
 pub open_wanting : (p : Place) (status : Status) (v w : View) (x y : Shelved) → Waits v w → Leaves x y → status ≡ out_of_memory → Plays (opening_script (Ok p)) v w x y 1 (Err status)
@@ -60,15 +64,15 @@ open_wanting p status v w x y waits leaves is =
 -- a request that isn't taken
 pub open_refused : (r : ReadRequest) (status : Status) (v : View) (x : Shelved) → IsIn v → Err status ≡ place_of r → Plays (begin_script r) v v x x 1 (Err status)
 open_refused r status v x h e =
-    subst (λ (o : Opened). Plays (opening_script o) v v x x 1 (Err status)) e
+    subst (λ (o : Result Place Status). Plays (opening_script o) v v x x 1 (Err status)) e
     (took_more {A = Opened} (End (Err status)) (End (Err status)) v v x x 0 1 (omega arith) (took_none (End (Err status)) v x h))
 
 pub open_taken : (r : ReadRequest) (p : Place) (answer : Opened) (v w : View) (x y : Shelved) → Ok p ≡ place_of r → Plays (opening_script (Ok p)) v w x y 1 answer → Plays (begin_script r) v w x y 1 answer
-open_taken r p answer v w x y e h = subst (λ (o : Opened). Plays (opening_script o) v w x y 1 answer) e h
+open_taken r p answer v w x y e h = subst (λ (o : Result Place Status). Plays (opening_script o) v w x y 1 answer) e h
 
 -- ---- no further bytes
 
-pub stopped_again : (d : HashAndSize) (s : Script Answered) (stop : ReadStop) (v : View) (x : Shelved) → IsIn v → s ≡ stop_script d stop → Took s v v x x 1 (stop_script d stop)
+pub stopped_again : (d : HashAndSize) (s : Script Turned) (stop : ReadStop) (v : View) (x : Shelved) → IsIn v → s ≡ stop_script d stop → Took s v v x x 1 (stop_script d stop)
 stopped_again d s stop v x h is = rw is (took_more (stop_script d stop) (stop_script d stop) v v x x 0 1 (omega arith) (took_none (stop_script d stop) v x h))
 
 same_answer : (d : HashAndSize) (stop kept : ReadStop) (v : View) (x : Shelved) → IsIn v → kept ≡ stop → stop_script d stop ≡ End (stop_answer d stop) → Took (stop_script d stop) v v x x 0 (End (stop_answer d kept))
@@ -78,9 +82,17 @@ settled : (d : HashAndSize) (stop kept : ReadStop) (v : View) (x : Shelved) → 
 settled d stops.Done kept v x h keeps = same_answer d stops.Done kept v x h keeps refl
 settled d stops.Failed kept v x h keeps = same_answer d stops.Failed kept v x h keeps refl
 settled d stops.OutOfMemory kept v x h keeps = same_answer d stops.OutOfMemory kept v x h keeps refl
-settled d (stops.Damaged got) kept v x h (inl e) = let t = End (stop_answer d (stops.Damaged got)) in rw e (took_fit wanting t t v v x x 0 (took_none t v x h))
-settled d (stops.Damaged got) kept v x h (inr e) = rw e (took_broke wanting (End (stop_answer d (stops.Damaged got))) wanting v v x x 0 (took_none wanting v x h))
+settled d (stops.Damaged got) kept v x h (inl e) = let t : Script Turned = End (stop_answer d (stops.Damaged got)) in rw e (took_fit wanting t t v v x x 0 (took_none t v x h))
+settled d (stops.Damaged got) kept v x h (inr e) = let t : Script Turned = End (stop_answer d (stops.Damaged got)) in rw e (took_broke wanting t wanting v v x x 0 (took_none wanting v x h))
 
-pub stopped_then : (d : HashAndSize) (s : Script Answered) (stop kept : ReadStop) (answer : Answered) (v w : View) (x y : Shelved) → Took s v w x y 1 (stop_script d stop) → Keeps stop kept → answer ≡ stop_answer d kept → Plays s v w x y 1 answer
-stopped_then d s stop kept answer v w x y took keeps is =
-    rw is (took_joined s (stop_script d stop) (End (stop_answer d kept)) v w w x y y 1 0 took (settled d stop kept w y (is_in_after s (stop_script d stop) v w x y 1 took) keeps))
+-- an answer where no further bytes are given says nothing of how the call stands
+standing_stop : (d : HashAndSize) (stop : ReadStop) (s : ReadState) → standing s (stop_answer d stop) ≡ stop_answer d stop
+standing_stop d stops.Done s = refl
+standing_stop d stops.Failed s = refl
+standing_stop d (stops.Damaged got) s = refl
+standing_stop d stops.OutOfMemory s = refl
+
+pub stopped_then : (d : HashAndSize) (s : Script Turned) (stop kept : ReadStop) (answer : Answered) (new : ReadState) (v w : View) (x y : Shelved) → Took s v w x y 1 (stop_script d stop) → Keeps stop kept → answer ≡ stop_answer d kept → Plays s v w x y 1 (standing new answer)
+stopped_then d s stop kept answer new v w x y took keeps is =
+    let t : Turned = stop_answer d kept in
+    rw (is, standing_stop d kept new) (took_joined s (stop_script d stop) (End t) v w w x y y 1 0 took (settled d stop kept w y (is_in_after s (stop_script d stop) v w x y 1 took) keeps))

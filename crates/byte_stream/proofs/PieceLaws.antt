@@ -12,6 +12,7 @@ use Rattle.blob_store.specs.Bodies.{ReadingState, HasRead, ReadsOn, IsRead}
 use Rattle.blob_store.specs.Shelves.{Shelved, Stays}
 use Rattle.blob_store.specs.declared.reading.ReadingEnd.{ReadingEnd}
 use Rattle.blob_store.specs.declared.reading.ReadingEnd.TheVariants.{Failed as Fault, Damaged}
+use Rattle.cas_calls.specs.Bodies.{IsLater}
 use Rattle.cas_calls.specs.Plays.{Leaves, Lapses}
 use Rattle.cas_calls.proofs.ReadLaws.{leaves_joined, leaves_stays}
 use Rattle.byte_stream.specs.declared.read_stop.ReadStop.{ReadStop}
@@ -40,17 +41,20 @@ pub room_more : (s t : ReadingState) (room left : ℕ) (more : List ℕ) → Has
 room_more s t room left more has reads fits = record {
   count = has.count + length more;
   has = count_more s t has.count more has.has reads;
-  fits = omega (arith, has.fits, ap (λ (d : HashAndSize). d.size) reads.want);
+  fits = omega (arith, has.fits, ap (λ (d : HashAndSize). d.size) reads.later.want);
 }
 
+pub later_joined : (s t u : ReadingState) → IsLater s t → IsLater t u → IsLater s u
+later_joined s t u p q = record { want = q.want ∙ p.want; told = q.told ∙ p.told }
+
 pub reads_none : (s : ReadingState) (count : ℕ) → HasCount s count → ReadsMore s s []
-reads_none s count has = record { on = λ read h. subst (λ (xs : List ℕ). HasRead s xs) (sym (append-nil read)) h; going = has.going; want = refl }
+reads_none s count has = record { on = λ read h. subst (λ (xs : List ℕ). HasRead s xs) (sym (append-nil read)) h; going = has.going; later = record { want = refl; told = refl } }
 
 pub reads_joined : (s t u : ReadingState) (xs ys : List ℕ) → ReadsMore s t xs → ReadsMore t u ys → ReadsMore s u (xs ++ ys)
 reads_joined s t u xs ys p q = record {
   on = λ read h. subst (λ (zs : List ℕ). HasRead u zs) (append_assoc read xs ys) (q.on (read ++ xs) (p.on read h));
   going = q.going;
-  want = q.want ∙ p.want;
+  later = later_joined s t u p.later q.later;
 }
 
 -- ---- a piece of a buffer
@@ -83,12 +87,12 @@ pub mid_length : (at : ℕ) (xs : List ℕ) → length (mid_of at (length xs - a
 mid_length at xs = length-take (length xs - at) (drop at xs) ∙ (let l : length (drop at xs) ≡ length xs - at = length-drop at xs in omega arith)
 
 -- one more part was read into the buffer
-pub fill_step : (r s t : ReadingState) (at n : ℕ) (buf part : List ℕ) (x y z : Shelved) → at ≤ length buf → HasRoom s (length buf - at) → ReadsMore r s (take at buf) → Leaves x y → length part ≡ length (mid_of at (length buf - at) buf) → n ≤ length part → ReadsOn s t (take n part) → t.want ≡ s.want → t.end ≡ None → Stays y z
+pub fill_step : (r s t : ReadingState) (at n : ℕ) (buf part : List ℕ) (x y z : Shelved) → at ≤ length buf → HasRoom s (length buf - at) → ReadsMore r s (take at buf) → Leaves x y → length part ≡ length (mid_of at (length buf - at) buf) → n ≤ length part → ReadsOn s t (take n part) → IsLater s t → t.end ≡ None → Stays y z
     → (at + n ≤ length (put_mid at (length buf - at) buf part)) × HasRoom t (length (put_mid at (length buf - at) buf part) - (at + n)) × ReadsMore r t (take (at + n) (put_mid at (length buf - at) buf part)) × Leaves x z
-fill_step r s t at n buf part x y z within has reads leaves len le on want going stays =
+fill_step r s t at n buf part x y z within has reads leaves len le on later going stays =
     let part_len : length part ≡ length buf - at = len ∙ mid_length at buf in
     let all : length (put_mid at (length buf - at) buf part) ≡ length buf = same_len_mid at (length buf - at) buf part len in
-    let more : ReadsMore s t (take n part) = record { on = on; going = going; want = want } in
+    let more : ReadsMore s t (take n part) = record { on = on; going = going; later = later } in
     let size : length (take n part) ≡ n = length-take n part ∙ omega arith in (
       omega (arith, all, part_len),
       room_more s t (length buf - at) (length (put_mid at (length buf - at) buf part) - (at + n)) (take n part) has more (omega (arith, all, part_len, size)),
@@ -107,14 +111,14 @@ skip_step r s t left n count xs ys x y z has sum reads leaves len le more later 
     )
 
 -- the rest of the body: one more part was read
-pub out_step : (r s t : ReadingState) (read n : ℕ) (xs part : List ℕ) (d : HashAndSize) (x y z : Shelved) → HasCount s read → ReadsMore r s xs → s.want ≡ d → Leaves x y → n ≤ length part → ReadsOn s t (take n part) → t.want ≡ s.want → t.end ≡ None → 0 < length part → Stays y z
+pub out_step : (r s t : ReadingState) (read n : ℕ) (xs part : List ℕ) (d : HashAndSize) (x y z : Shelved) → HasCount s read → ReadsMore r s xs → s.want ≡ d → Leaves x y → n ≤ length part → ReadsOn s t (take n part) → IsLater s t → t.end ≡ None → 0 < length part → Stays y z
     → HasCount t (read + n) × ((more : List ℕ) × ReadsMore r t more) × (t.want ≡ d) × (0 < length part) × Leaves x z
-out_step r s t read n xs part d x y z has reads is leaves le on want going some stays =
-    let more : ReadsMore s t (take n part) = record { on = on; going = going; want = want } in
+out_step r s t read n xs part d x y z has reads is leaves le on later going some stays =
+    let more : ReadsMore s t (take n part) = record { on = on; going = going; later = later } in
     let size : length (take n part) ≡ n = length-take n part ∙ omega arith in (
       subst (λ (k : ℕ). HasCount t (read + k)) size (count_more s t read (take n part) has more),
       (xs ++ take n part, reads_joined r s t xs (take n part) reads more),
-      want ∙ is,
+      later.want ∙ is,
       some,
       leaves_joined x y z leaves (leaves_stays y z stays),
     )
@@ -125,7 +129,7 @@ pub piece_room : (p : Place) (s t : ReadingState) (more : List ℕ) (n : ℕ) �
 piece_room p s t more n has ahead range want reads len le = record {
   count = p.read + length more;
   has = count_more s t p.read more has reads;
-  fits = omega (arith, range.from, range.within, ap (λ (d : HashAndSize). d.size) (reads.want ∙ want), len, le, ahead);
+  fits = omega (arith, range.from, range.within, ap (λ (d : HashAndSize). d.size) (reads.later.want ∙ want), len, le, ahead);
 }
 
 pub piece_given : (p : Place) (s t u : ReadingState) (more piece : List ℕ) → p.read ≤ p.next → IsRange p → ReadsMore s t more → length more ≡ p.next - p.read → ReadsMore t u piece → length piece ≡ min (p.stop - p.next) max_piece → GivesPiece p s u piece

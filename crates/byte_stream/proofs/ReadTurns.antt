@@ -1,81 +1,96 @@
 -- The turns of a Read, by what was told of the body.
-use Rattle.std.proofs.Common.{◌≡◌, ◌≢◌, ◌≤◌, ◌<◌, ◌∙◌, ℕ, Bool, true, false, List, Option, Some, None, Result, Ok, Err, refl, sym, ap, subst, inl, inr, arith}
-use Rattle.std.specs.Prelude.{nat_lt, IfErr, IfOk, ◌⊎◌}
+use Rattle.std.proofs.Common.{◌≡◌, ◌≤◌, ◌<◌, ◌-◌, ◌∙◌, ℕ, Bool, true, false, List, Option, Some, None, Result, Ok, Err, drop, refl, sym, ap, subst, arith}
+use Rattle.std.specs.Prelude.{IfErr, IfOk, length}
 use Rattle.digest_types.specs.Name.{HashAndSize}
-use Rattle.digest_types.specs.Digest.{digest_of}
-use Rattle.casd_base.specs.declared.status.Status.{Status}
-use Rattle.store_core.specs.State.{same}
 use Rattle.store_core.specs.declared.event.Event.TheVariants as events
-use Rattle.store_core.specs.declared.event.Reply.{Reply}
 use Rattle.store_core.specs.declared.event.Reply.TheVariants as replies
-use Rattle.store_core.proofs.Same.{same_from_equal, not_same_from_other}
-use Rattle.blob_store.specs.Bodies.{ReadingState, IsRead}
+use Rattle.blob_store.specs.Bodies.{ReadingState, Explains}
+use Rattle.blob_store.specs.declared.reading.ReadingEnd.TheVariants.{Damaged}
 use Rattle.blob_store.specs.View.{View, Makes}
 use Rattle.blob_store.specs.Shelves.{Shelved}
-use Rattle.cas_calls.specs.Script.{Script, End, Make, Room, Ask, Whole, Told, Did, Failed, Gave}
+use Rattle.cas_calls.specs.Bodies.{IsLater, IsReadOn, IsFoundOut, IsReadOut}
+use Rattle.cas_calls.specs.Script.{Script, End, Make, Room, Ask, Asked, More, Rest, Told, Failed, Went, Ended, FoundOut}
 use Rattle.cas_calls.specs.Plays.{IsIn, Took, Leaves, Lapses}
-use Rattle.cas_calls.proofs.ReadLaws.{leaves_none}
-use Rattle.cas_calls.proofs.TakeLaws.{took_none, took_more, took_fit, took_broke, took_told, took_lapsed, took_wanting, took_made}
+use Rattle.cas_calls.proofs.TakeLaws.{took_none, took_more, took_fit, took_told, took_lapsed, took_wanting, took_made}
 use Rattle.byte_stream.specs.declared.place.Place.{Place}
 use Rattle.byte_stream.specs.declared.read_stop.ReadStop.{ReadStop}
 use Rattle.byte_stream.specs.declared.read_stop.ReadStop.TheVariants as stops
-use Rattle.byte_stream.specs.Pieces.{IsHalted, IsFinished, IsOther, ReadsRest, HasCount}
-use Rattle.byte_stream.specs.Read.{Answered, wanting, Notes, is_damage, damage_script, piece_told, cut_told, rest_told, piece_script, rest_script, going_script, turn_script, stop_script, stop_answer, Keeps}
+use Rattle.byte_stream.specs.Places.{piece_end}
+use Rattle.byte_stream.specs.Pieces.{IsHalted, IsFinished, IsOther, GivesPiece}
+use Rattle.byte_stream.specs.Read.{ReadState, begun_at, Turned, wanting, Notes, is_damage, damage_script, piece_told, rest_told, piece_script, rest_script, turn_script, stop_script}
 
--- the damage of a body with these bytes was noted
-took_damage : (d got : HashAndSize) (bytes : List ℕ) (v w : View) (y : Shelved) → got ≡ digest_of bytes → Makes v w (events.Damage d) replies.Marked → Took (damage_script d bytes) v w y y 1 (stop_script d (stops.Damaged got))
-took_damage d got bytes v w y is makes =
-    subst (λ (g : HashAndSize). Took (damage_script d bytes) v w y y 1 (stop_script d (stops.Damaged g))) (sym is)
-    (took_made (events.Damage d) (λ reply. stop_script d (stops.Damaged (digest_of bytes))) v w y y replies.Marked makes refl (λ owner leases. refl))
+-- the damage of a body was noted
+took_damage : (d got : HashAndSize) (v w : View) (y : Shelved) → Makes v w (events.Damage d) replies.Marked → Took (damage_script d got) v w y y 1 (stop_script d (stops.Damaged got))
+took_damage d got v w y makes = took_made (events.Damage d) (λ reply. stop_script d (stops.Damaged got)) v w y y replies.Marked makes refl (λ owner leases. refl)
 
-unlike : (d got : HashAndSize) (bytes : List ℕ) → got ≢ d → got ≡ digest_of bytes → same d (digest_of bytes) ≡ false
-unlike d got bytes other is = not_same_from_other d (digest_of bytes) (λ e. other (is ∙ sym e))
+found_out : (s t : ReadingState) (got : HashAndSize) → IsLater s t → IsOther t got → IsFoundOut s t got
+found_out s t got later other = record { later = later; damage = subst (λ (d : HashAndSize). Explains t (Damaged d got)) later.want other }
 
--- the shelf gave nothing, and then what had been read of the body was looked at
-cut_body : (d got : HashAndSize) (bytes : List ℕ) (v w : View) (x y : Shelved) → Leaves x y → got ≢ d → got ≡ digest_of bytes → Makes v w (events.Damage d) replies.Marked → Took (piece_script d) v w x y 1 (stop_script d (stops.Damaged got))
-cut_body d got bytes v w x y leaves other is makes =
-    let t = stop_script d (stops.Damaged got) in
-    let noted : Took (cut_told d (Gave bytes)) v w y y 1 t = rw (unlike d got bytes other is) (took_damage d got bytes v w y is makes) in
-    let looked : Took (Ask (Whole d) (cut_told d)) v w y y 1 t = took_told (Whole d) (Gave bytes) (cut_told d) t v w y y y 1 refl refl (leaves_none y) noted in
-    took_fit wanting (Ask (Whole d) (piece_told d)) t v w x y 1 (took_told (Whole d) Did (piece_told d) t v w x y y 1 refl refl leaves looked)
+read_on : (p : Place) (s t : ReadingState) (piece : List ℕ) → IsLater s t → (gives : GivesPiece p s t piece) → IsReadOn s t (piece_end p - p.read) gives.more
+read_on p s t piece later gives = record { later = later; reads = gives.reads.on; count_is = omega (arith, gives.all); going = gives.reads.going }
 
-rest_body : (d got : HashAndSize) (bytes : List ℕ) (v w : View) (x y : Shelved) → Leaves x y → got ≢ d → got ≡ digest_of bytes → Makes v w (events.Damage d) replies.Marked → Took (rest_script d) v w x y 1 (stop_script d (stops.Damaged got))
-rest_body d got bytes v w x y leaves other is makes =
-    let t = stop_script d (stops.Damaged got) in
-    let noted : Took (rest_told d (Gave bytes)) v w y y 1 t = rw (unlike d got bytes other is) (took_damage d got bytes v w y is makes) in
-    took_fit wanting (Ask (Whole d) (rest_told d)) t v w x y 1 (took_told (Whole d) (Gave bytes) (rest_told d) t v w x y y 1 refl refl leaves noted)
+-- ---- a piece
 
-whole_body : (d : HashAndSize) (bytes : List ℕ) (v : View) (x y : Shelved) → IsIn v → Leaves x y → digest_of bytes ≡ d → Took (rest_script d) v v x y 1 (stop_script d stops.Done)
-whole_body d bytes v x y h leaves is =
-    let t = stop_script d stops.Done in
-    let told : Took (rest_told d (Gave bytes)) v v y y 0 t = rw (same_from_equal d (digest_of bytes) (sym is)) (took_none t v y h) in
-    took_more (rest_script d) t v v x y 0 1 (omega arith)
-    (took_fit wanting (Ask (Whole d) (rest_told d)) t v v x y 0 (took_told (Whole d) (Gave bytes) (rest_told d) t v v x y y 0 refl refl leaves told))
+given_piece : (p : Place) (s t : ReadingState) (piece : List ℕ) (v : View) (x y : Shelved) → IsIn v → Leaves x y → IsLater s t → GivesPiece p s t piece → Took (piece_script (begun_at p s)) v v x y 1 (turn_script (begun_at p s) t (Ok piece))
+given_piece p s t piece v x y h leaves later gives =
+    let state = begun_at p s in
+    let asked = More s (piece_end p - p.read) in
+    let to = turn_script state t (Ok piece) in
+    let there : Took (piece_told state (Went t gives.more)) v v y y 0 to = rw gives.piece_is (took_none _ v y h) in
+    took_more (piece_script state) to v v x y 0 1 (omega arith)
+    (took_fit wanting (Ask asked (piece_told state)) to v v x y 0
+    (took_told asked (Went t gives.more) (piece_told state) to v v x y y 0 refl refl refl (read_on p s t piece later gives) leaves there))
 
-given_piece : (d : HashAndSize) (piece : List ℕ) (v : View) (x y : Shelved) → IsIn v → Leaves x y → Took (piece_script d) v v x y 1 (turn_script d (Ok piece))
-given_piece d piece v x y h leaves =
-    let t = turn_script d (Ok piece) in
-    took_more (piece_script d) t v v x y 0 1 (omega arith)
-    (took_fit wanting (Ask (Whole d) (piece_told d)) t v v x y 0 (took_told (Whole d) (Gave piece) (piece_told d) t v v x y y 0 refl refl leaves (took_none t v y h)))
+cut_body : (p : Place) (s t : ReadingState) (got : HashAndSize) (v w : View) (x y : Shelved) → Leaves x y → IsLater s t → IsOther t got → Makes v w (events.Damage p.digest) replies.Marked → Took (piece_script (begun_at p s)) v w x y 1 (stop_script p.digest (stops.Damaged got))
+cut_body p s t got v w x y leaves later other makes =
+    let state = begun_at p s in
+    let asked = More s (piece_end p - p.read) in
+    let to = stop_script p.digest (stops.Damaged got) in
+    took_fit wanting (Ask asked (piece_told state)) to v w x y 1
+    (took_told asked (FoundOut t got) (piece_told state) to v w x y y 1 refl refl refl (found_out s t got later other) leaves (took_damage p.digest got v w y makes))
 
-failed_turn : (d : HashAndSize) (k : Told → Script Answered) (v : View) (x y : Shelved) → IsIn v → Leaves x y → Lapses x y → k Failed ≡ stop_script d stops.Failed → Took (Room wanting (Ask (Whole d) k)) v v x y 1 (stop_script d stops.Failed)
-failed_turn d k v x y h leaves lapses is =
-    took_more (Room wanting (Ask (Whole d) k)) (stop_script d stops.Failed) v v x y 0 1 (omega arith)
-    (took_fit wanting (Ask (Whole d) k) (stop_script d stops.Failed) v v x y 0 (subst (λ (s : Script Answered). Took (Ask (Whole d) k) v v x y 0 s) is (took_lapsed (Whole d) k v x y refl h leaves lapses)))
+-- ---- the rest
 
-wanting_turn : (d : HashAndSize) (k : Told → Script Answered) (v : View) (x y : Shelved) → IsIn v → Leaves x y → Took (Room wanting (Ask (Whole d) k)) v v x y 1 (stop_script d stops.OutOfMemory)
-wanting_turn d k v x y h leaves = took_more (Room wanting (Ask (Whole d) k)) (stop_script d stops.OutOfMemory) v v x y 0 1 (omega arith) (took_wanting wanting (Ask (Whole d) k) v x y h leaves)
+rest_body : (p : Place) (s t : ReadingState) (got : HashAndSize) (v w : View) (x y : Shelved) → Leaves x y → IsLater s t → IsOther t got → Makes v w (events.Damage p.digest) replies.Marked → Took (rest_script (begun_at p s)) v w x y 1 (stop_script p.digest (stops.Damaged got))
+rest_body p s t got v w x y leaves later other makes =
+    let to = stop_script p.digest (stops.Damaged got) in
+    took_fit wanting (Ask (Rest s) (rest_told p.digest)) to v w x y 1
+    (took_told (Rest s) (FoundOut t got) (rest_told p.digest) to v w x y y 1 refl refl refl (found_out s t got later other) leaves (took_damage p.digest got v w y makes))
 
-pub took_piece : (d : HashAndSize) (s : ReadingState) (served : Result (List ℕ) ReadStop) (v w : View) (x y : Shelved) → IsIn v → Leaves x y → IfErr served (IsHalted s x y) → s.want ≡ d → Notes (is_damage served) d v w → Took (piece_script d) v w x y 1 (turn_script d served)
-took_piece d s (Ok piece) v w x y h leaves halted want notes = rw notes (given_piece d piece v x y h leaves)
-took_piece d s (Err stops.Done) v w x y h leaves halted want notes = absurd halted
-took_piece d s (Err stops.Failed) v w x y h leaves halted want notes = rw notes (failed_turn d (piece_told d) v x y h leaves halted refl)
-took_piece d s (Err (stops.Damaged got)) v w x y h leaves halted want notes = cut_body d got halted.bytes v w x y leaves (λ e. halted.other (e ∙ sym want)) halted.digest notes
-took_piece d s (Err stops.OutOfMemory) v w x y h leaves halted want notes = rw notes (wanting_turn d (piece_told d) v x y h leaves)
+whole_body : (p : Place) (s t : ReadingState) (v : View) (x y : Shelved) → IsIn v → Leaves x y → IsReadOut s t → Took (rest_script (begun_at p s)) v v x y 1 (stop_script p.digest stops.Done)
+whole_body p s t v x y h leaves out =
+    let to = stop_script p.digest stops.Done in
+    took_more (rest_script (begun_at p s)) to v v x y 0 1 (omega arith)
+    (took_fit wanting (Ask (Rest s) (rest_told p.digest)) to v v x y 0
+    (took_told (Rest s) (Ended t) (rest_told p.digest) to v v x y y 0 refl refl refl out leaves (took_none to v y h)))
 
-pub took_rest : (d : HashAndSize) (count : ℕ) (s t : ReadingState) (stop : ReadStop) (v w : View) (x y : Shelved) → IsIn v → Leaves x y → HasCount s count → IsFinished s t x y stop → t.want ≡ d → Notes (is_damage (Err stop)) d v w → Took (rest_script d) v w x y 1 (stop_script d stop)
-took_rest d count s t stops.Done v w x y h leaves has finished want notes =
-    rw notes (whole_body d _ v x y h leaves (finished.whole.digest _ (finished.reads.on has.bytes has.read) ∙ want))
-took_rest d count s t stops.Failed v w x y h leaves has finished want notes = rw notes (failed_turn d (rest_told d) v x y h leaves finished refl)
-took_rest d count s t (stops.Damaged got) v w x y h leaves has finished want notes = rest_body d got finished.bytes v w x y leaves (λ e. finished.other (e ∙ sym want)) finished.digest notes
-took_rest d count s t stops.OutOfMemory v w x y h leaves has finished want notes = rw notes (wanting_turn d (rest_told d) v x y h leaves)
+-- ---- a fault, and want of memory
+
+failed_turn : (p : Place) (asked : Asked) (k : Told → Script Turned) (v : View) (x y : Shelved) → IsIn v → Leaves x y → Lapses x y → Took (Ask asked k) v v x y 0 (k Failed) → k Failed ≡ stop_script p.digest stops.Failed → Took (Room wanting (Ask asked k)) v v x y 1 (stop_script p.digest stops.Failed)
+failed_turn p asked k v x y h leaves lapses took is =
+    took_more (Room wanting (Ask asked k)) (stop_script p.digest stops.Failed) v v x y 0 1 (omega arith)
+    (took_fit wanting (Ask asked k) (stop_script p.digest stops.Failed) v v x y 0 (subst (λ (s : Script Turned). Took (Ask asked k) v v x y 0 s) is took))
+
+wanting_turn : (p : Place) (asked : Asked) (k : Told → Script Turned) (v : View) (x y : Shelved) → IsIn v → Leaves x y → Took (Room wanting (Ask asked k)) v v x y 1 (stop_script p.digest stops.OutOfMemory)
+wanting_turn p asked k v x y h leaves = took_more (Room wanting (Ask asked k)) (stop_script p.digest stops.OutOfMemory) v v x y 0 1 (omega arith) (took_wanting wanting (Ask asked k) v x y h leaves)
+
+pub took_piece : (p : Place) (s t : ReadingState) (served : Result (List ℕ) ReadStop) (v w : View) (x y : Shelved) → IsIn v → Leaves x y → IsLater s t → IfOk served (GivesPiece p s t) → IfErr served (IsHalted t x y) → Notes (is_damage served) p.digest v w
+    → Took (piece_script (begun_at p s)) v w x y 1 (turn_script (begun_at p s) t served)
+took_piece p s t (Ok piece) v w x y h leaves later gives halted notes = rw notes (given_piece p s t piece v x y h leaves later gives)
+took_piece p s t (Err stops.Done) v w x y h leaves later gives halted notes = absurd halted
+took_piece p s t (Err stops.Failed) v w x y h leaves later gives halted notes =
+    let asked = More s (piece_end p - p.read) in
+    let k = piece_told (begun_at p s) in
+    rw notes (failed_turn p asked k v x y h leaves halted (took_lapsed asked k v x y refl refl tt h leaves halted) refl)
+took_piece p s t (Err (stops.Damaged got)) v w x y h leaves later gives halted notes = cut_body p s t got v w x y leaves later halted notes
+took_piece p s t (Err stops.OutOfMemory) v w x y h leaves later gives halted notes = rw notes (wanting_turn p (More s (piece_end p - p.read)) (piece_told (begun_at p s)) v x y h leaves)
+
+pub took_rest : (p : Place) (s t : ReadingState) (stop : ReadStop) (v w : View) (x y : Shelved) → IsIn v → Leaves x y → IsLater s t → IsFinished s t x y stop → Notes (is_damage (Err stop)) p.digest v w
+    → Took (rest_script (begun_at p s)) v w x y 1 (stop_script p.digest stop)
+took_rest p s t stops.Done v w x y h leaves later finished notes =
+    rw notes (whole_body p s t v x y h leaves (record { later = later; rest = finished.more; reads = finished.reads.on; whole = finished.whole }))
+took_rest p s t stops.Failed v w x y h leaves later finished notes =
+    let k = rest_told p.digest in
+    rw notes (failed_turn p (Rest s) k v x y h leaves finished (took_lapsed (Rest s) k v x y refl refl tt h leaves finished) refl)
+took_rest p s t (stops.Damaged got) v w x y h leaves later finished notes = rest_body p s t got v w x y leaves later finished notes
+took_rest p s t stops.OutOfMemory v w x y h leaves later finished notes = rw notes (wanting_turn p (Rest s) (rest_told p.digest) v x y h leaves)

@@ -1,12 +1,12 @@
 -- A body that is read on.
-use Rattle.std.specs.Prelude.{◌≡◌, ◌≢◌, ◌+◌, ◌-◌, ◌≤◌, ℕ, List, length, drop, None}
+use Rattle.std.specs.Prelude.{◌≡◌, ◌+◌, ◌-◌, ◌≤◌, ℕ, List, length, drop, None}
 use Rattle.digest_types.specs.Name.{HashAndSize}
-use Rattle.digest_types.specs.Digest.{digest_of}
-use Rattle.blob_store.specs.Bodies.{ReadingState, HasRead, ReadsOn, IsRead}
+use Rattle.blob_store.specs.Bodies.{ReadingState, HasRead, ReadsOn, IsRead, Explains}
 use Rattle.blob_store.specs.Shelves.{Shelved}
 use Rattle.blob_store.specs.declared.reading.ReadingEnd.{ReadingEnd}
 use Rattle.blob_store.specs.declared.reading.ReadingEnd.TheVariants.{Failed as Fault, Damaged}
-use Rattle.cas_calls.specs.Plays.{Leaves, Lapses}
+use Rattle.cas_calls.specs.Bodies.{IsLater}
+use Rattle.cas_calls.specs.Plays.{Lapses}
 use Rattle.byte_stream.specs.declared.place.Place.{Place}
 use Rattle.byte_stream.specs.Places.{piece_end}
 use Rattle.byte_stream.specs.declared.read_stop.ReadStop.{ReadStop}
@@ -29,14 +29,11 @@ pub record HasRoom (s : ReadingState) (more : ℕ) : Type 0 where
 pub record ReadsMore (old new : ReadingState) (more : List ℕ) : Type 0 where
   pub on : ReadsOn old new more
   pub going : new.end ≡ None
-  pub want : new.want ≡ old.want
+  pub later : IsLater old new
 
--- what is known of a body that has another digest, which is that of bytes that were read
-pub record IsOther (s : ReadingState) (got : HashAndSize) : Type 0 where
-  pub other : got ≢ s.want
-  pub bytes : List ℕ
-  pub read : HasRead s bytes
-  pub digest : got ≡ digest_of bytes
+-- the body that is read has another digest than the one that is wanted
+abbrev pub IsOther : ReadingState → HashAndSize → Type 0
+IsOther s got = Explains s (Damaged s.want got)
 
 -- the reading was refused
 abbrev pub IsCut : ReadingState → Shelved → Shelved → ReadingEnd → Type 0

@@ -2,6 +2,7 @@
 
 ghost use Rattle.std.specs.Prelude.{◌≡◌, ◌<◌, ◌≤◌, ◌+◌, ◌-◌, ℕ, List, [], length, drop, None, IfOk, IfErr, OnOk};
 ghost use Rattle.blob_store.specs.Bodies.{ReadsOn};
+ghost use Rattle.cas_calls.specs.Bodies.{IsLater};
 ghost use Rattle.cas_calls.specs.Plays.{Leaves};
 ghost use Rattle.byte_stream.specs.Places.{IsRange, piece_end};
 ghost use Rattle.byte_stream.specs.Pieces.{HasCount, HasRoom, GivesPiece, ReadsMore, IsCut, IsHalted, IsFinished};
@@ -23,7 +24,7 @@ fn fill<K: Shelf>(shelf: &mut K, reading: &mut Reading<K>, buf: &mut [u8]) -> Re
     requires room { HasRoom reading.old (length buf.old) }
     ensures ok { OnOk result (ReadsMore reading.old reading.new buf.new) }
     ensures err { IfErr result (IsCut reading.new (K.shelved shelf.old) (K.shelved shelf.new)) }
-    ensures want { reading.new.want ≡ reading.old.want }
+    ensures later { IsLater reading.old reading.new }
     ensures leaves { Leaves (K.shelved shelf.old) (K.shelved shelf.new) }
 {
     let mut at = 0;
@@ -47,7 +48,7 @@ fn skip_with<K: Shelf>(
     requires some { 0 < length scratch.old }
     ensures ok { OnOk result ((more : List ℕ) × (length more ≡ count) × ReadsMore reading.old reading.new more) }
     ensures err { IfErr result (IsCut reading.new (K.shelved shelf.old) (K.shelved shelf.new)) }
-    ensures want { reading.new.want ≡ reading.old.want }
+    ensures later { IsLater reading.old reading.new }
     ensures leaves { Leaves (K.shelved shelf.old) (K.shelved shelf.new) }
 {
     let mut left = count;
@@ -69,7 +70,7 @@ fn skip<K: Shelf>(
     requires room { HasRoom reading.old count }
     ensures ok { OnOk result ((more : List ℕ) × (length more ≡ count) × ReadsMore reading.old reading.new more) }
     ensures err { IfErr result (IsHalted reading.new (K.shelved shelf.old) (K.shelved shelf.new)) }
-    ensures want { reading.new.want ≡ reading.old.want }
+    ensures later { IsLater reading.old reading.new }
     ensures leaves { Leaves (K.shelved shelf.old) (K.shelved shelf.new) }
 {
     if count == 0 {
@@ -93,7 +94,7 @@ pub(crate) fn read_piece<K: Shelf>(
     requires want { reading.old.want ≡ place.now.digest }
     ensures ok { IfOk result (GivesPiece place.now reading.old reading.new) }
     ensures err { IfErr result (IsHalted reading.new (K.shelved shelf.old) (K.shelved shelf.new)) }
-    ensures want { reading.new.want ≡ reading.old.want }
+    ensures later { IsLater reading.old reading.new }
     ensures leaves { Leaves (K.shelved shelf.old) (K.shelved shelf.new) }
 {
     let size = (place.stop - place.next).min(MAX_PIECE) as usize;
@@ -114,7 +115,7 @@ fn read_out<K: Shelf>(
     requires want { reading.old.want ≡ place.now.digest }
     requires some { 0 < length scratch.old }
     ensures stop { IsFinished reading.old reading.new (K.shelved shelf.old) (K.shelved shelf.new) result }
-    ensures want { reading.new.want ≡ reading.old.want }
+    ensures later { IsLater reading.old reading.new }
     ensures leaves { Leaves (K.shelved shelf.old) (K.shelved shelf.new) }
 {
     let mut read = place.read;
@@ -137,7 +138,7 @@ pub(crate) fn read_rest<K: Shelf>(
     requires begun { HasCount reading.old place.now.read }
     requires want { reading.old.want ≡ place.now.digest }
     ensures stop { IsFinished reading.old reading.new (K.shelved shelf.old) (K.shelved shelf.new) result }
-    ensures want { reading.new.want ≡ reading.old.want }
+    ensures later { IsLater reading.old reading.new }
     ensures leaves { Leaves (K.shelved shelf.old) (K.shelved shelf.new) }
 {
     match vec![in alloc; 0; MAX_SCRATCH as usize] {

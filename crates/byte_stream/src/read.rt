@@ -3,7 +3,7 @@
 ghost use Rattle.std.specs.Prelude.{◌≡◌, ◌<◌, true, Some, None, Ok, Err, IsNone, IfOk, IfErr, IfSome, IfNone};
 ghost use Rattle.cas_calls.specs.Plays.{IsIn, Took, Plays};
 ghost use Rattle.byte_stream.specs.Places.{place_of, IsRange};
-ghost use Rattle.byte_stream.specs.Read.{Opened, opening_script, begin_script, next_script, turn_script, opened, answered, stop_answer, place_after, ended_after, IsBegun, IsEnd, Keeps, Sends, Finishes};
+ghost use Rattle.byte_stream.specs.Read.{Opened, opening_script, begin_script, next_script, turn_script, standing, answered, stop_answer, place_after, ended_after, IsBegun, IsEnd, Keeps, Sends, Finishes};
 ghost use Rattle.byte_stream.specs.Pieces.{GivesPiece};
 ghost use Rattle.byte_stream.specs.declared.read_stop.ReadStop.{ReadStop as ReadStopped};
 
@@ -51,7 +51,7 @@ fn open<K: Shelf, D: Door<K>>(
     requires turn { 0 < (D.view door.old).left }
     requires range { IsRange place.now }
     requires fresh { place.now.read ≡ 0 }
-    ensures plays { Plays (opening_script (Ok place.now)) (D.view door.old) (D.view door.new) (K.shelved shelf.old) (K.shelved shelf.new) 1 (opened result) }
+    ensures plays { Plays (opening_script (Ok place.now)) (D.view door.old) (D.view door.new) (K.shelved shelf.old) (K.shelved shelf.new) 1 result }
     ensures begun { IfOk result IsBegun }
 {
     match door.read(shelf, &place.digest) {
@@ -82,7 +82,7 @@ impl<K: Shelf> ReadCall<K> {
     ) -> Result<ReadCall<K>, Status>
         requires is_in { (D.view door.old).entered ≡ true }
         requires turn { 0 < (D.view door.old).left }
-        ensures plays { Plays (begin_script request.now) (D.view door.old) (D.view door.new) (K.shelved shelf.old) (K.shelved shelf.new) 1 (opened result) }
+        ensures plays { Plays (begin_script request.now) (D.view door.old) (D.view door.new) (K.shelved shelf.old) (K.shelved shelf.new) 1 result }
         ensures begun { IfOk result IsBegun }
     {
         let _turns = door.left();
@@ -96,7 +96,7 @@ impl<K: Shelf> ReadCall<K> {
     fn turn<D: Door<K>>(&mut self, door: &mut D, shelf: &mut K) -> Result<Bytes, ReadStop>
         requires is_in { IsIn (D.view door.old) }
         requires turn { 0 < (D.view door.old).left }
-        ensures took { Took (next_script self.old) (D.view door.old) (D.view door.new) (K.shelved shelf.old) (K.shelved shelf.new) 1 (turn_script self.old.place.digest result) }
+        ensures took { Took (next_script self.old) (D.view door.old) (D.view door.new) (K.shelved shelf.old) (K.shelved shelf.new) 1 (turn_script self.old self.new.reading result) }
         ensures piece { IfOk result (Sends self.old self.new) }
         ensures end { IfErr result (λ stop. IfNone self.old.ended (IsEnd self.old.place self.old.reading self.new.reading stop)) }
         ensures ended { IfErr result (λ stop. self.new.ended ≡ Some stop) }
@@ -135,7 +135,7 @@ impl<K: Shelf> ReadCall<K> {
     ) -> Result<Option<ReadResponse>, Status>
         requires is_in { (D.view door.old).entered ≡ true }
         requires turn { 0 < (D.view door.old).left }
-        ensures plays { Plays (next_script self.old) (D.view door.old) (D.view door.new) (K.shelved shelf.old) (K.shelved shelf.new) 1 (answered result) }
+        ensures plays { Plays (next_script self.old) (D.view door.old) (D.view door.new) (K.shelved shelf.old) (K.shelved shelf.new) 1 (standing self.new (answered result)) }
         // A piece is the next bytes of the range.
         ensures piece { IfOk result (λ o. IfSome o (λ response. Sends self.old self.new response.bytes)) }
         // At the end all of the range was given, and all of the body was read, which has the digest.

@@ -1,10 +1,10 @@
 //! The turns of a Read.
 
-ghost use Rattle.std.specs.Prelude.{◌≡◌, ◌<◌, IfOk, IfErr};
+ghost use Rattle.std.specs.Prelude.{◌≡◌, ◌<◌, IfOk, IfErr, OnOk};
 ghost use Rattle.cas_calls.specs.Plays.{IsIn, Took};
 ghost use Rattle.byte_stream.specs.Places.{IsRange, piece_end};
 ghost use Rattle.byte_stream.specs.Pieces.{GivesPiece};
-ghost use Rattle.byte_stream.specs.Read.{IsGoing, IsEnd, Keeps, Notes, is_damage, piece_script, rest_script, going_script, turn_script, stop_answer, answered, place_after, ended_after};
+ghost use Rattle.byte_stream.specs.Read.{begun_at, IsGoing, IsEnd, Keeps, Notes, is_damage, piece_script, rest_script, going_script, turn_script, stop_answer, answered, place_after, ended_after};
 
 use crate::piece::{MAX_PIECE, read_piece, read_rest};
 use crate::place::Place;
@@ -41,9 +41,11 @@ fn serve_piece<K: Shelf, D: Door<K>>(
     requires turn { 0 < (D.view door.old).left }
     requires going { IsGoing reading.old place.now }
     requires range { IsRange place.now }
+    requires more { place.now.next < place.now.stop }
     requires want { reading.old.want ≡ place.now.digest }
-    ensures took { Took (piece_script place.now.digest) (D.view door.old) (D.view door.new) (K.shelved shelf.old) (K.shelved shelf.new) 1 (turn_script place.now.digest result) }
+    ensures took { Took (piece_script (begun_at place.now reading.old)) (D.view door.old) (D.view door.new) (K.shelved shelf.old) (K.shelved shelf.new) 1 (turn_script (begun_at place.now reading.old) reading.new result) }
     ensures ok { IfOk result (GivesPiece place.now reading.old reading.new) }
+    ensures more { OnOk result (place.now.next < place.now.stop) }
     ensures end { IfErr result (IsEnd place.now reading.old reading.new) }
     ensures want { reading.new.want ≡ reading.old.want }
 {
@@ -65,8 +67,9 @@ fn serve_rest<K: Shelf, D: Door<K>>(
     requires going { IsGoing reading.old place.now }
     requires all { place.now.next ≡ place.now.stop }
     requires want { reading.old.want ≡ place.now.digest }
-    ensures took { Took (rest_script place.now.digest) (D.view door.old) (D.view door.new) (K.shelved shelf.old) (K.shelved shelf.new) 1 (turn_script place.now.digest result) }
+    ensures took { Took (rest_script (begun_at place.now reading.old)) (D.view door.old) (D.view door.new) (K.shelved shelf.old) (K.shelved shelf.new) 1 (turn_script (begun_at place.now reading.old) reading.new result) }
     ensures ok { IfOk result (GivesPiece place.now reading.old reading.new) }
+    ensures more { OnOk result (place.now.next < place.now.stop) }
     ensures end { IfErr result (IsEnd place.now reading.old reading.new) }
     ensures want { reading.new.want ≡ reading.old.want }
 {
@@ -88,8 +91,9 @@ pub(crate) fn serve<K: Shelf, D: Door<K>>(
     requires going { IsGoing reading.old place.now }
     requires range { IsRange place.now }
     requires want { reading.old.want ≡ place.now.digest }
-    ensures took { Took (going_script place.now) (D.view door.old) (D.view door.new) (K.shelved shelf.old) (K.shelved shelf.new) 1 (turn_script place.now.digest result) }
+    ensures took { Took (going_script (begun_at place.now reading.old)) (D.view door.old) (D.view door.new) (K.shelved shelf.old) (K.shelved shelf.new) 1 (turn_script (begun_at place.now reading.old) reading.new result) }
     ensures ok { IfOk result (GivesPiece place.now reading.old reading.new) }
+    ensures more { OnOk result (place.now.next < place.now.stop) }
     ensures end { IfErr result (IsEnd place.now reading.old reading.new) }
     ensures want { reading.new.want ≡ reading.old.want }
 {

@@ -13,4 +13,4 @@ bytes-smaller g c =
 pub bytes-preserved : goal.bytes-preserved
 bytes-preserved g c =
     fill_step c.args.reading.now c.bytes.reading c.next.new.self c.bytes.at c.in-Ok.count c.bytes.buf c.next.new.buf (g.K.Shelf.shelved c.args.shelf.now) (g.K.Shelf.shelved c.bytes.shelf) (g.K.Shelf.shelved c.next.new.shelf)
-    c.bytes.invariant.0 c.bytes.invariant.1 c.bytes.invariant.2 c.bytes.invariant.3 c.next.auto.buf c.in-Ok.ensures.bound c.in-Ok.ensures.bytes c.in-Ok.ensures.want c.in-Ok.ensures.ok c.in-Ok.ensures.stays
+    c.bytes.invariant.0 c.bytes.invariant.1 c.bytes.invariant.2 c.bytes.invariant.3 c.next.auto.buf c.in-Ok.ensures.bound c.in-Ok.ensures.bytes (record { want = c.in-Ok.ensures.want; told = c.in-Ok.ensures.told }) c.in-Ok.ensures.ok c.in-Ok.ensures.stays

@@ -10,4 +10,4 @@ pub pieces-preserved : goal.pieces-preserved
 pieces-preserved g c =
     let some : 0 < length c.next.new.buf = omega (arith, c.next.auto.buf, c.pieces.invariant.3) in
     out_step c.args.reading.now c.pieces.reading c.next.new.self c.pieces.read c.in-Ok.count c.pieces.invariant.1.0 c.next.new.buf c.args.place.now.digest (g.K.Shelf.shelved c.args.shelf.now) (g.K.Shelf.shelved c.pieces.shelf) (g.K.Shelf.shelved c.next.new.shelf)
-    c.pieces.invariant.0 c.pieces.invariant.1.1 c.pieces.invariant.2 c.pieces.invariant.4 c.in-Ok.ensures.bound c.in-Ok.ensures.bytes c.in-Ok.ensures.want c.in-Ok.ensures.ok some c.in-Ok.ensures.stays
+    c.pieces.invariant.0 c.pieces.invariant.1.1 c.pieces.invariant.2 c.pieces.invariant.4 c.in-Ok.ensures.bound c.in-Ok.ensures.bytes (record { want = c.in-Ok.ensures.want; told = c.in-Ok.ensures.told }) c.in-Ok.ensures.ok some c.in-Ok.ensures.stays

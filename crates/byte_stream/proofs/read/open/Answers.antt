@@ -7,7 +7,7 @@ use Rattle.byte_stream.proofs.read.open.Goals as goal
 pub returns-in-Ok-Some-clause-plays : goal.returns-in-Ok-Some-clause-plays
 returns-in-Ok-Some-clause-plays g c =
     open_found c.args.place.now c.in-Ok-Some.field-0 c.in-Ok-Some.reading (g.D.Door.view c.args.door.now) (g.D.Door.view c.read.new.self) (g.K.Shelf.shelved c.args.shelf.now) (g.K.Shelf.shelved c.read.new.shelf)
-    (leaves_stays (g.K.Shelf.shelved c.args.shelf.now) (g.K.Shelf.shelved c.read.new.shelf) c.in-Ok-Some.ensures.stays) c.in-Ok-Some.field-0-is c.in-Ok-Some.ensures.ok
+    (leaves_stays (g.K.Shelf.shelved c.args.shelf.now) (g.K.Shelf.shelved c.read.new.shelf) c.in-Ok-Some.ensures.stays) c.in-Ok-Some.field-0-is c.in-Ok-Some.ensures.begun c.in-Ok-Some.ensures.ok
 
 pub returns-in-Ok-None-clause-plays : goal.returns-in-Ok-None-clause-plays
 returns-in-Ok-None-clause-plays g c =

@@ -1,5 +1,4 @@
 use Rattle.std.proofs.Common.{Ok}
-use Rattle.byte_stream.specs.Read.{opened}
 use Rattle.byte_stream.proofs.OpenLaws.{open_refused, open_taken}
 use Rattle.byte_stream.proofs.read.ReadCall.begin.Goals as goal
 
