@@ -20,7 +20,7 @@ use Rattle.grpc_calls.specs.Framing.{framed}
 use Rattle.grpc_calls.specs.Headers.{answer_headers, trailers}
 use Rattle.grpc_calls.specs.Streams.{Row, is_fresh, without_call}
 use Rattle.grpc_calls.specs.Calls.{Calls, Opens, Replies, Finishes, may_reply, may_reply_to}
-use Rattle.casd_connection.specs.declared.live.Live.{Live}
+use Rattle.casd_connection.specs.Waiters.{Waiter}
 use Rattle.casd_connection.specs.Exchange.{Conn, Saying, Refuse, Reply, Message, Finish, Trailers, spoken, opened, is_sending}
 use Rattle.casd_connection.specs.Course.{Course}
 use Rattle.casd_connection.specs.Steps.{conn, at, IsServing, Keeps, Moves, Speaks}
@@ -48,7 +48,7 @@ answers_on n c s =
 
 -- ---- the headers of an answer
 
-opens_moves : (b : Bool) (n : ℕ) (old new : Session) (rows : List Row) (es : List CallEvent) (live : List Live) (over : Bool) (xs : List Saying) → Opens b n old new
+opens_moves : (b : Bool) (n : ℕ) (old new : Session) (rows : List Row) (es : List CallEvent) (live : List Waiter) (over : Bool) (xs : List Saying) → Opens b n old new
     → Moves (conn (cond b (said n (outs.Headers answer_headers false) old.part) old.part) rows es live over xs) (conn new.part rows es live over xs) [] [] old.output new.output
 opens_moves true n old new rows es live over xs h =
     moves_settled (conn (said n (outs.Headers answer_headers false) old.part) rows es live over xs) new.part old.output new.output refl refl h.settles
@@ -89,7 +89,7 @@ reply_speaks n message old new serving may r reader role = record {
     live_is : is_sending n old.session.part ≡ true
     live_is = sym (answers_on n old serving) ∙ may
 
-    steps : (live : List Live) (over : Bool) (more : List Saying) → Moves (at old live over (Reply n message ∷ more)) (at new live over more) [] [] old.session.output new.session.output
+    steps : (live : List Waiter) (over : Bool) (more : List Saying) → Moves (at old live over (Reply n message ∷ more)) (at new live over more) [] [] old.session.output new.session.output
     steps live over more =
         let p = old.session.part in
         let rows = old.calls in
@@ -130,7 +130,7 @@ finish_speaks n status old new serving may r reader role = record {
     live_is : is_sending n old.session.part ≡ true
     live_is = sym (answers_on n old serving) ∙ may
 
-    steps : (live : List Live) (over : Bool) (more : List Saying) → Moves (at old live over (Finish n status ∷ more)) (at new live over more) [] [] old.session.output new.session.output
+    steps : (live : List Waiter) (over : Bool) (more : List Saying) → Moves (at old live over (Finish n status ∷ more)) (at new live over more) [] [] old.session.output new.session.output
     steps live over more =
         let p = old.session.part in
         let rows = old.calls in

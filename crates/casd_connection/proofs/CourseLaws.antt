@@ -1,6 +1,7 @@
 -- Parts of an exchange, one after the other, and one for each kind of item.
 use Rattle.grpc_calls.specs.Streams.{Row}
 use Rattle.std.proofs.Common.{◌≡◌, ◌∙◌, ℕ, Bool, true, false, List, [], ◌∷◌, ◌++◌, append_assoc, Option, Some, None, refl, sym, ap, subst}
+use Rattle.std.specs.Prelude.{slice_get}
 use Rattle.std.specs.List.{flat_map}
 use Rattle.std.proofs.lemmas.List.{append-nil}
 use Rattle.h2_frames.specs.declared.frame.Frame.{Frame}
@@ -9,13 +10,14 @@ use Rattle.h2_session.specs.declared.event.SessionEvent.{SessionEvent}
 use Rattle.h2_session.specs.Part.{Part}
 use Rattle.h2_session.specs.Faults.{offence}
 use Rattle.h2_session.specs.Heard.{heard}
-use Rattle.h2_session.specs.Sent.{MaySend, sent, Sends, Settles, spellings}
+use Rattle.h2_session.specs.Sent.{MaySend, sent, Sends, Settles, IsQuiet, spellings}
 use Rattle.grpc_calls.specs.declared.event.CallEvent.{CallEvent}
 use Rattle.cas_calls.specs.Script.{Script, End, Make, Room, Ask, Step, Follows, after}
 use Rattle.live_calls.specs.Turns.{Turn}
-use Rattle.casd_connection.specs.declared.live.Live.{Live}
+use Rattle.live_calls.specs.declared.happening.Happening.TheVariants as happenings
+use Rattle.casd_connection.specs.Waiters.{Waiter}
 use Rattle.casd_connection.specs.declared.end.ConnEnd.{ConnEnd}
-use Rattle.casd_connection.specs.Exchange.{Item, Read, Tells, Hands, Does, Says, Wrote, Ends, Conn, Saying, next, May, MayStop, IsFree, IsIdle, go, given, spoken}
+use Rattle.casd_connection.specs.Exchange.{Item, Read, Tells, Hands, Wakes, Does, Says, Wrote, Ends, Conn, Saying, next, May, MayStop, IsFree, IsIdle, IsDue, go, given, resumed_at, spoken}
 use Rattle.casd_connection.specs.Course.{Goes, reads, steps, writes, Course}
 use Rattle.casd_connection.specs.Steps.{conn, Moves}
 
@@ -30,6 +32,7 @@ reads-append [] js = refl
 reads-append (Read f ∷ is) js = ap (λ (fs : List Frame). f ∷ fs) (reads-append is js)
 reads-append (Tells ∷ is) js = reads-append is js
 reads-append (Hands ∷ is) js = reads-append is js
+reads-append (Wakes i ∷ is) js = reads-append is js
 reads-append (Does x ∷ is) js = reads-append is js
 reads-append (Says ∷ is) js = reads-append is js
 reads-append (Wrote f ∷ is) js = reads-append is js
@@ -40,6 +43,7 @@ steps-append [] js = refl
 steps-append (Read f ∷ is) js = steps-append is js
 steps-append (Tells ∷ is) js = steps-append is js
 steps-append (Hands ∷ is) js = steps-append is js
+steps-append (Wakes i ∷ is) js = steps-append is js
 steps-append (Does x ∷ is) js = ap (λ (xs : List Step). x ∷ xs) (steps-append is js)
 steps-append (Says ∷ is) js = steps-append is js
 steps-append (Wrote f ∷ is) js = steps-append is js
@@ -50,6 +54,7 @@ writes-append [] js = refl
 writes-append (Read f ∷ is) js = writes-append is js
 writes-append (Tells ∷ is) js = writes-append is js
 writes-append (Hands ∷ is) js = writes-append is js
+writes-append (Wakes i ∷ is) js = writes-append is js
 writes-append (Does x ∷ is) js = writes-append is js
 writes-append (Says ∷ is) js = writes-append is js
 writes-append (Wrote f ∷ is) js = ap (λ (fs : List Frame). f ∷ fs) (writes-append is js)
@@ -130,7 +135,7 @@ moves_settled c q old new end busy h = record {
 
 -- ---- one item
 
-pub course_read : (p : Part) (rows : List Row) (live : List Live) (over : Bool) (f : Frame) → offence p f ≡ None
+pub course_read : (p : Part) (rows : List Row) (live : List Waiter) (over : Bool) (f : Frame) → offence p f ≡ None
     → Course (conn p rows [] live over []) (record (conn p rows [] live over []) { part = (heard p f).part; meaning = (heard p f).event }) (f ∷ []) [] []
 course_read p rows live over f h =
     record { items = Read f ∷ []; goes = ((record { end = refl; busy = refl; meaning = refl; pending = refl; saying = refl }, h), refl); reads = refl; steps = refl; writes = refl }
@@ -138,12 +143,17 @@ course_read p rows live over f h =
 pub course_tells : (c : Conn) (e : SessionEvent) → c.end ≡ None → c.busy ≡ None → c.meaning ≡ Some e → Course c (next c Tells) [] [] []
 course_tells c e end busy m = record { items = Tells ∷ []; goes = ((record { end = end; busy = busy }, e, m), refl); reads = refl; steps = refl; writes = refl }
 
-pub course_hands : (p : Part) (rows : List Row) (e : CallEvent) (es : List CallEvent) (live : List Live) (over : Bool)
+pub course_hands : (p : Part) (rows : List Row) (e : CallEvent) (es : List CallEvent) (live : List Waiter) (over : Bool)
     → Course (conn p rows (e ∷ es) live over []) (given e (conn p rows es live over [])) [] [] []
 course_hands p rows e es live over =
     record { items = Hands ∷ []; goes = ((record { end = refl; busy = refl }, refl, refl, e, es, refl), refl); reads = refl; steps = refl; writes = refl }
 
-pub course_says : (p : Part) (rows : List Row) (es : List CallEvent) (live : List Live) (over : Bool) (x : Saying) (xs : List Saying)
+pub course_wakes : (p : Part) (rows : List Row) (es : List CallEvent) (live : List Waiter) (over : Bool) (i : ℕ) → es ≡ [] → IsQuiet p → IsDue (conn p rows es live over []) i
+    → Course (conn p rows es live over []) (resumed_at happenings.Woken i (slice_get live i) (conn p rows es live over [])) [] [] []
+course_wakes p rows es live over i empty quiet due =
+    record { items = Wakes i ∷ []; goes = (((record { end = refl; busy = refl; meaning = refl; pending = empty; saying = refl }, quiet), due), refl); reads = refl; steps = refl; writes = refl }
+
+pub course_says : (p : Part) (rows : List Row) (es : List CallEvent) (live : List Waiter) (over : Bool) (x : Saying) (xs : List Saying)
     → Course (conn p rows es live over (x ∷ xs)) (spoken x (conn p rows es live over xs)) [] [] []
 course_says p rows es live over x xs =
     record { items = Says ∷ []; goes = ((record { end = refl; busy = refl }, x, xs, refl), refl); reads = refl; steps = refl; writes = refl }
@@ -172,7 +182,7 @@ unfolding does_of
 writes-does [] = refl
 writes-does (x ∷ xs) = writes-does xs
 
-goes_does : (p : Part) (rows : List Row) (es : List CallEvent) (live : List Live) (over : Bool) (n : ℕ) (row : Option ℕ) (xs : List Step) (t u : Turn) → Follows t xs u
+goes_does : (p : Part) (rows : List Row) (es : List CallEvent) (live : List Waiter) (over : Bool) (n : ℕ) (row : Option ℕ) (xs : List Step) (t u : Turn) → Follows t xs u
     → Goes (go t n row (conn p rows es live over [])) (does_of xs) (go u n row (conn p rows es live over []))
 unfolding does_of
 goes_does p rows es live over n row [] t u h = ap (λ (x : Turn). go x n row (conn p rows es live over [])) h
@@ -181,7 +191,7 @@ goes_does p rows es live over n row (x ∷ xs) (Room wanting t) u h = ((refl, h.
 goes_does p rows es live over n row (x ∷ xs) (Ask asked k) u h = ((refl, h.0), goes_does p rows es live over n row xs (after (Ask asked k) x) u h.1)
 goes_does p rows es live over n row (x ∷ xs) (End outcome) u h = absurd h.0
 
-pub course_does : (p : Part) (rows : List Row) (es : List CallEvent) (live : List Live) (over : Bool) (n : ℕ) (row : Option ℕ) (xs : List Step) (t u : Turn) → Follows t xs u
+pub course_does : (p : Part) (rows : List Row) (es : List CallEvent) (live : List Waiter) (over : Bool) (n : ℕ) (row : Option ℕ) (xs : List Step) (t u : Turn) → Follows t xs u
     → Course (go t n row (conn p rows es live over [])) (go u n row (conn p rows es live over [])) [] xs []
 course_does p rows es live over n row xs t u h =
     record { items = does_of xs; goes = goes_does p rows es live over n row xs t u h; reads = reads-does xs; steps = steps-does xs; writes = writes-does xs }

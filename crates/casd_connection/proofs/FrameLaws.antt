@@ -21,7 +21,7 @@ use Rattle.grpc_calls.specs.declared.event.CallEvent.{CallEvent}
 use Rattle.grpc_calls.specs.Headers.{refusal_headers}
 use Rattle.grpc_calls.specs.Streams.{Row, Refused, Told, told}
 use Rattle.grpc_calls.specs.Calls.{Calls, Hears, Refuses, Reads, ReadsNone, OffendsAtFront, OffendsByFrame, refusal_at}
-use Rattle.casd_connection.specs.declared.live.Live.{Live}
+use Rattle.casd_connection.specs.Waiters.{Waiter}
 use Rattle.casd_connection.specs.Exchange.{Item, Tells, Conn, Saying, Refuse, refusing, telling, spoken, next}
 use Rattle.casd_connection.specs.Course.{Course}
 use Rattle.casd_connection.specs.Written.{Offends, away, AreFirst}
@@ -31,17 +31,17 @@ use Rattle.casd_connection.proofs.CourseLaws.{course_joined, course_none, moves_
 -- ---- what a frame means is told
 
 -- a connection at which a frame was just read
-abbrev meant : Part → Option SessionEvent → List Row → List Live → Bool → Conn
+abbrev meant : Part → Option SessionEvent → List Row → List Waiter → Bool → Conn
 meant p m rows live over = record (conn p rows [] live over []) { meaning = m }
 
-told_moves : (p : Part) (m : Option SessionEvent) (rows : List Row) (live : List Live) (over : Bool) (out : List ℕ)
+told_moves : (p : Part) (m : Option SessionEvent) (rows : List Row) (live : List Waiter) (over : Bool) (out : List ℕ)
     → Moves (meant p m rows live over) (conn p (told p m rows).calls (told p m rows).events live over (refusing (told p m rows).refused)) [] [] out out
 told_moves p None rows live over out = moves_none (conn p rows [] live over []) out
 told_moves p (Some e) rows live over out =
     moves_by (meant p (Some e) rows live over) (next (meant p (Some e) rows live over) Tells) [] [] out (course_tells (meant p (Some e) rows live over) e refl refl refl)
 
 -- a request that is refused is answered
-refused_moves : (r : Option (ℕ × Refused)) (old new : Session) (rows : List Row) (es : List CallEvent) (live : List Live) (over : Bool) → Refuses r old new
+refused_moves : (r : Option (ℕ × Refused)) (old new : Session) (rows : List Row) (es : List CallEvent) (live : List Waiter) (over : Bool) → Refuses r old new
     → Moves (conn old.part rows es live over (refusing r)) (conn new.part rows es live over []) [] [] old.output new.output
 refused_moves None old new rows es live over h =
     subst (λ (s : Session). Moves (conn old.part rows es live over []) (conn s.part rows es live over []) [] [] old.output s.output) (sym h) (moves_none (conn old.part rows es live over []) old.output)
@@ -51,7 +51,7 @@ refused_moves (Some r) old new rows es live over h =
     (moves_by (conn old.part rows es live over (Refuse r.0 r.1 ∷ [])) (conn q rows es live over []) [] [] old.output (course_says old.part rows es live over (Refuse r.0 r.1) []))
     (moves_settled (conn q rows es live over []) new.part old.output new.output refl refl h.settles)
 
-pub heard_moves : (old new : Calls) (live : List Live) (over : Bool) (f : Frame) → old.pending ≡ [] → Hears old.session old.calls f new
+pub heard_moves : (old new : Calls) (live : List Waiter) (over : Bool) (f : Frame) → old.pending ≡ [] → Hears old.session old.calls f new
     → Moves (at old live over []) (at new live over []) (f ∷ []) [] old.session.output new.session.output
 heard_moves old new live over f empty h =
     let p = old.session.part in

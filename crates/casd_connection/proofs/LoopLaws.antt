@@ -11,7 +11,7 @@ use Rattle.grpc_calls.specs.Calls.{Calls, Reads}
 use Rattle.blob_store.specs.View.{View, IsSeated}
 use Rattle.blob_store.specs.Shelves.{Shelved}
 use Rattle.cas_calls.specs.Script.{Step}
-use Rattle.casd_connection.specs.declared.live.Live.{Live}
+use Rattle.casd_connection.specs.Waiters.{Waiter}
 use Rattle.casd_connection.specs.Exchange.{Conn}
 use Rattle.casd_connection.specs.Course.{Course}
 use Rattle.casd_connection.specs.Written.{frames_of, Offends}
@@ -23,7 +23,7 @@ use Rattle.casd_connection.proofs.TurnLaws.{does_none, does_joined}
 -- ---- one frame
 
 -- a frame was read, and its events were handed over
-pub framed_by : (v w : View) (x y : Shelved) (n place : ℕ) (f : Frame) (a b d : Calls) (live live' : List Live) (over over' : Bool)
+pub framed_by : (v w : View) (x y : Shelved) (n place : ℕ) (f : Frame) (a b d : Calls) (live live' : List Waiter) (over over' : Bool)
     → Moves (at a live over []) (at b live over []) (f ∷ []) [] a.session.output b.session.output → Reads a place f b → d.reader ≡ b.reader
     → Turned v w x y n (at b live over []) (at d live' over' []) b.session.output d.session.output
     → Framed v w x y n (at a live over []) (at d live' over' []) a.session.output d.session.output a.reader d.reader
@@ -36,7 +36,7 @@ framed_by v w x y n place f a b d live live' over over' first reads same k = rec
   given = λ ins ps bytes h. subst (λ (r : Pending). HasGiven true ins (ps ++ (place, f) ∷ []) r) (sym same) (frame_given a b place f reads ins ps bytes h);
 }
 
-pub unframed_by : (v w : View) (x y : Shelved) (n place : ℕ) (f : Frame) (a b : Calls) (live : List Live) (over : Bool)
+pub unframed_by : (v w : View) (x y : Shelved) (n place : ℕ) (f : Frame) (a b : Calls) (live : List Waiter) (over : Bool)
     → Moves (at a live over []) (at b live over []) (f ∷ []) [] a.session.output b.session.output → Reads a place f b
     → Broken v w x y n (at b live over []) [] → Unframed v w x y n (at a live over []) a.reader
 unframed_by v w x y n place f a b live over first reads k = record {
@@ -54,7 +54,7 @@ unframed_by v w x y n place f a b live over first reads k = record {
 }
 
 -- memory was wanting before a frame was read
-pub unframed_none : (v : View) (x : Shelved) (n : ℕ) (a : Calls) (live : List Live) (over : Bool) → v.entered ≡ true → IsSeated v → Unframed v v x x n (at a live over []) a.reader
+pub unframed_none : (v : View) (x : Shelved) (n : ℕ) (a : Calls) (live : List Waiter) (over : Bool) → v.entered ≡ true → IsSeated v → Unframed v v x x n (at a live over []) a.reader
 unframed_none v x n a live over is_in seated = record {
   frames = [];
   broken = record { steps = []; sent = []; last = at a live over []; course = course_none (at a live over []); free = refl; does = does_none v x n is_in seated };
@@ -64,7 +64,7 @@ unframed_none v x n a live over is_in seated = record {
 
 -- ---- many frames
 
-pub runs_none : (v : View) (x : Shelved) (c : Calls) (live : List Live) (over : Bool) → v.entered ≡ true → IsSeated v → IsServing c → c.pending ≡ [] → RunsTo v v x x c c live live over over
+pub runs_none : (v : View) (x : Shelved) (c : Calls) (live : List Waiter) (over : Bool) → v.entered ≡ true → IsSeated v → IsServing c → c.pending ≡ [] → RunsTo v v x x c c live live over over
 runs_none v x c live over is_in seated serving pending = record {
   sent = [];
   runs = record {
@@ -100,7 +100,7 @@ runs_joined u v w x y z a b last ms ns p q r first second = record {
       (second.given ins (ps ++ first.frames) bytes (first.given ins ps bytes h));
 }
 
-pub runs_more : (u v w : View) (x y z : Shelved) (n : ℕ) (c b d : Calls) (live waits live' : List Live) (over still over' : Bool) → RunsTo u v x y c b live waits over still
+pub runs_more : (u v w : View) (x y z : Shelved) (n : ℕ) (c b d : Calls) (live waits live' : List Waiter) (over still over' : Bool) → RunsTo u v x y c b live waits over still
     → Framed v w y z n (at b waits still []) (at d live' over' []) b.session.output d.session.output b.reader d.reader → IsServing d → d.pending ≡ [] → RunsTo u w x z c d live live' over over'
 runs_more u v w x y z n c b d live waits live' over still over' first k serving pending = record {
   sent = first.sent ++ k.moves.sent;
@@ -112,12 +112,12 @@ runs_more u v w x y z n c b d live waits live' over still over' first k serving 
 }
 
 -- no further frame is there
-pub runs_all : (u v w : View) (x y z : Shelved) (c b d : Calls) (live waits live' : List Live) (over still over' : Bool) → (first : RunsTo u v x y c b live waits over still) → Does v w y z 0 [] → Waits b d → live' ≡ waits → over' ≡ still
+pub runs_all : (u v w : View) (x y z : Shelved) (c b d : Calls) (live waits live' : List Waiter) (over still over' : Bool) → (first : RunsTo u v x y c b live waits over still) → Does v w y z 0 [] → Waits b d → live' ≡ waits → over' ≡ still
     → (k : RunsTo u w x z c d live live' over over') × IsAll k.runs.frames c.reader d.reader
 runs_all u v w x y z c b d live waits live' over still over' first does wait same_live same_over =
     let place : at b waits still [] ≡ at d live' over' [] =
     ap (λ (m : Calls). at m waits still []) (sym wait.same)
-    ∙ ap (λ (l : List Live). at d l still []) (sym same_live)
+    ∙ ap (λ (l : List Waiter). at d l still []) (sym same_live)
     ∙ ap (λ (o : Bool). at d live' o []) (sym same_over)
     in (
       record {
@@ -143,7 +143,7 @@ runs_all u v w x y z c b d live waits live' over still over' first does wait sam
       λ ins ps bytes h. (wait.given ins (ps ++ first.runs.frames) bytes (first.runs.given ins ps bytes h)).1,
     )
 
-pub runs_into : (u v w : View) (x y z : Shelved) (c b : Calls) (live waits : List Live) (over still : Bool) (code place : ℕ) (output : List ℕ) → (first : RunsTo u v x y c b live waits over still) → Does v w y z 0 [] → Offended b code place output
+pub runs_into : (u v w : View) (x y z : Shelved) (c b : Calls) (live waits : List Waiter) (over still : Bool) (code place : ℕ) (output : List ℕ) → (first : RunsTo u v x y c b live waits over still) → Does v w y z 0 [] → Offended b code place output
     → RunsInto u w x z c live over code place output
 runs_into u v w x y z c b live waits over still code place output first does k = record {
   sent = first.sent;
@@ -166,7 +166,7 @@ runs_into u v w x y z c b live waits over still code place output first does k =
   offends = λ ins ps bytes h. k.offends ins (ps ++ first.runs.frames) bytes (first.runs.given ins ps bytes h);
 }
 
-pub runs_out : (u v w : View) (x y z : Shelved) (n : ℕ) (c b : Calls) (live waits : List Live) (over still : Bool) → RunsTo u v x y c b live waits over still → Unframed v w y z n (at b waits still []) b.reader → RunsOut u w x z c live over
+pub runs_out : (u v w : View) (x y z : Shelved) (n : ℕ) (c b : Calls) (live waits : List Waiter) (over still : Bool) → RunsTo u v x y c b live waits over still → Unframed v w y z n (at b waits still []) b.reader → RunsOut u w x z c live over
 runs_out u v w x y z n c b live waits over still first k = record {
   sent = first.sent ++ k.broken.sent;
   last = k.broken.last;

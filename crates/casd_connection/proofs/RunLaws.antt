@@ -18,20 +18,20 @@ use Rattle.casd_base.specs.declared.sink.SinkEnd.TheVariants as sinks
 use Rattle.blob_store.specs.View.{View}
 use Rattle.blob_store.specs.Shelves.{Shelved}
 use Rattle.cas_calls.specs.Script.{Step}
-use Rattle.casd_connection.specs.declared.live.Live.{Live}
+use Rattle.casd_connection.specs.Waiters.{Waiter}
 use Rattle.casd_connection.specs.declared.end.ConnEnd.{ConnEnd}
 use Rattle.casd_connection.specs.declared.end.ConnEnd.TheVariants as ends
 use Rattle.casd_connection.specs.declared.frames.Taken.{Taken}
 use Rattle.casd_connection.specs.declared.frames.Taken.TheVariants as takens
-use Rattle.casd_connection.specs.Exchange.{Conn, start, MayStop, IsSettled}
+use Rattle.casd_connection.specs.Exchange.{Conn, NoneDue, start, MayStop, IsStill, IsSettled}
 use Rattle.casd_connection.specs.Course.{Course}
 use Rattle.casd_connection.specs.Linked.{Linked, Carries, IsUnmet, FoundEnd}
 use Rattle.casd_connection.specs.Writes.{Writes, Refuses, ReadsBytes, MeetsEnd}
 use Rattle.casd_connection.specs.Written.{Written, ReadsSo, WritesSo, Cause, Offends, AreFirst, frames_of, all_out}
-use Rattle.casd_connection.specs.Steps.{at, IsServing, Does, Runs, RunsTo, RunsInto, RunsOut, IsAll, Takes}
-use Rattle.casd_connection.specs.Stands.{State, state, IsReady, Stands, IsSettledAt, Ran, Settles, ReadsOn, Flushes, TakesIn, write_end, end_of, is_out, end_at}
+use Rattle.casd_connection.specs.Steps.{at, IsServing, Does, Runs, RunsTo, RunsInto, RunsOut, Wakened, IsAll, Takes}
+use Rattle.casd_connection.specs.Stands.{State, state, IsReady, Stands, IsTakenAt, IsSettledAt, Ran, TakesAll, ReadsOn, Flushes, TakesIn, write_end, end_of, is_out, end_at}
 use Rattle.casd_connection.proofs.CourseLaws.{course_joined, course_ends, output_joined, spelled-append}
-use Rattle.casd_connection.proofs.TurnLaws.{does_joined}
+use Rattle.casd_connection.proofs.TurnLaws.{does_joined, due_over}
 use Rattle.casd_connection.proofs.LoopLaws.{frames-append}
 use Rattle.casd_connection.proofs.LinkLaws.{carries_written, unmet_written, carries_read, carries_failed, rose_since}
 
@@ -118,8 +118,8 @@ ran_so end u w x z a b ins outs last sent reader read written g l carries read_i
         (subst (λ (qs : List Frame). Course start d (fs ++ []) (xs ++ []) qs) (append-nil ms) k))
 
 -- all that the last frame calls for is done, and nothing may be written
-settled : (c : Calls) (live : List Live) (over : Bool) → IsServing c → c.pending ≡ [] → IsSettled (at c live over [])
-settled c live over serving pending = (record { end = refl; busy = refl; meaning = refl; pending = pending; saying = refl }, serving.quiet)
+still : (c : Calls) (live : List Waiter) (over : Bool) → IsServing c → c.pending ≡ [] → IsStill (at c live over [])
+still c live over serving pending = (record { end = refl; busy = refl; meaning = refl; pending = pending; saying = refl }, serving.quiet)
 
 -- ---- memory ran out on the way
 
@@ -150,7 +150,7 @@ some_away : (sent more : List Frame) (outs old now part rest text : List ℕ) �
 some_away sent more outs old now part rest text h is cut =
     append_assoc outs part rest ∙ ap (λ (xs : List ℕ). outs ++ xs) (cut ∙ is) ∙ sym (out_more sent more outs old text h)
 
-refused_to : (end : ConnEnd) (u v w : View) (x y z : Shelved) (a b c : Linked) (s : State) (d : Calls) (live : List Live) (over : Bool) (part rest : List ℕ) (written : ℕ) → (k : Stands u v x y a b s) → RunsTo v w y z s.calls d s.live live s.over over
+refused_to : (end : ConnEnd) (u v w : View) (x y z : Shelved) (a b c : Linked) (s : State) (d : Calls) (live : List Waiter) (over : Bool) (part rest : List ℕ) (written : ℕ) → (k : Stands u v x y a b s) → RunsTo v w y z s.calls d s.live live s.over over
     → part ++ rest ≡ d.session.output → Writes b c part → IsRefusal end b c → written ≡ min (s.written + length part) (2 ^ 64 - 1) → Ran end u w x z a c s.read written
 unfolding IsRefusal
 refused_to end u v w x y z a b c s d live over part rest written k r cut writes why count =
@@ -162,7 +162,7 @@ refused_to end u v w x y z a b c s d live over part rest written k r cut writes 
     elim why [
       | inl f ↦ subst (λ (e : ConnEnd). Ran e u w x z a c s.read written) (sym f.0)
           (ran_so ends.WriteFault u w x z a c k.ins outs (at d live over []) (k.sent ++ r.sent) d.reader s.read written g
-          (record { may = settled d live over r.serving r.pending; reads = (d.reader, g.given); writes = inl (rest, whole); cause = rose_since a.write_faults b.write_faults c.write_faults k.carries.write_count f.1 })
+          (record { may = still d live over r.serving r.pending; reads = (d.reader, g.given); writes = inl (rest, whole); cause = rose_since a.write_faults b.write_faults c.write_faults k.carries.write_count f.1 })
           carries k.read counts)
       | inr f ↦ subst (λ (e : ConnEnd). Ran e u w x z a c s.read written) (sym f)
           (ran_so ends.OutOfMemory u w x z a c k.ins outs (at d live over []) (k.sent ++ r.sent) d.reader s.read written g
@@ -184,7 +184,7 @@ refused_into end u v w x y z a b c s code place output part rest written k r cut
     elim why [
       | inl f ↦ subst (λ (e : ConnEnd). Ran e u w x z a c s.read written) (sym f.0)
           (ran_so ends.WriteFault u w x z a c k.ins outs last (k.sent ++ r.sent) r.before.reader s.read written g
-          (record { may = settled r.before r.waits r.still r.serving r.pending; reads = (r.before.reader, g.given); writes = inr (code, place, r.text, offends, (rest, whole)); cause = rose_since a.write_faults b.write_faults c.write_faults k.carries.write_count f.1 })
+          (record { may = still r.before r.waits r.still r.serving r.pending; reads = (r.before.reader, g.given); writes = inr (code, place, r.text, offends, (rest, whole)); cause = rose_since a.write_faults b.write_faults c.write_faults k.carries.write_count f.1 })
           carries k.read counts)
       | inr f ↦ subst (λ (e : ConnEnd). Ran e u w x z a c s.read written) (sym f)
           (ran_so ends.OutOfMemory u w x z a c k.ins outs last (k.sent ++ r.sent) r.before.reader s.read written g
@@ -212,7 +212,7 @@ flushed_by (Err sinks.OutOfMemory) a b s d bytes n written is rest le writes all
 pub fits_by : (taken : Taken) → is_out taken ≡ false → taken ≡ takens.OutOfMemory → ⊥
 fits_by taken fits is = let out : is_out taken ≡ true = ap (λ (t : Taken). is_out t) is in cc
 
-pub out_by : (taken : Taken) (v w : View) (x y : Shelved) (c d : Calls) (live live' : List Live) (over over' : Bool) → is_out taken ≡ true → Takes taken v w x y c d live live' over over' → RunsOut v w x y c live over
+pub out_by : (taken : Taken) (v w : View) (x y : Shelved) (c d : Calls) (live live' : List Waiter) (over over' : Bool) → is_out taken ≡ true → Takes taken v w x y c d live live' over over' → RunsOut v w x y c live over
 out_by takens.OutOfMemory v w x y c d live live' over over' is h = h
 out_by takens.All v w x y c d live live' over over' is h = absurd cc
 out_by takens.Over v w x y c d live live' over over' is h = absurd cc
@@ -228,7 +228,7 @@ all_by (takens.Offence code place) fits none = absurd cc
 all_by takens.OutOfMemory fits none = absurd cc
 
 -- it leaves the connection ready
-pub ready_by : (taken : Taken) (v w : View) (x y : Shelved) (c d : Calls) (live live' : List Live) (over over' : Bool) (a b : Linked) (s t : State) → taken ≡ takens.All → Takes taken v w x y c d live live' over over' → Flushes None a b (state d live' over' s.read s.written) t
+pub ready_by : (taken : Taken) (v w : View) (x y : Shelved) (c d : Calls) (live live' : List Waiter) (over over' : Bool) (a b : Linked) (s t : State) → taken ≡ takens.All → Takes taken v w x y c d live live' over over' → Flushes None a b (state d live' over' s.read s.written) t
     → w.entered ≡ true → 2 ^ 29 ≤ w.left → d.reader.at + length d.reader.rest ≡ s.read → s.read ≤ 2 ^ 50 → IsReady t w
 ready_by taken v w x y c d live live' over over' a b s t all takes f is_in turns fed few =
     let k = (subst (λ (q : Taken). Takes q v w x y c d live live' over over') all takes).0 in
@@ -236,7 +236,7 @@ ready_by taken v w x y c d live live' over over' a b s t all takes f is_in turns
     (record { serving = record { sound = k.serving.sound; role = k.serving.role; quiet = k.serving.quiet }; pending = k.pending; is_in = is_in; turns = turns; fed = fed; few = few })
 
 -- whatever was taken, a write was refused
-pub settle_refused : (taken : Taken) (end : ConnEnd) (u v w : View) (x y z : Shelved) (a b c : Linked) (s : State) (d : Calls) (live : List Live) (over : Bool) (t : State) → (k : Stands u v x y a b s)
+pub settle_refused : (taken : Taken) (end : ConnEnd) (u v w : View) (x y z : Shelved) (a b c : Linked) (s : State) (d : Calls) (live : List Waiter) (over : Bool) (t : State) → (k : Stands u v x y a b s)
     → Takes taken v w y z s.calls d s.live live s.over over → (taken ≡ takens.OutOfMemory → ⊥) → Flushes (Some end) b c (state d live over s.read s.written) t → Ran end u w x z a c t.read t.written
 unfolding IsRefusal
 settle_refused taken end u v w x y z a b c s d live over t k takes fits f =
@@ -252,7 +252,7 @@ settle_refused taken end u v w x y z a b c s d live over t k takes fits f =
 
 -- ---- all was written
 
-wrote_to : (u v w : View) (x y z : Shelved) (a b c : Linked) (s : State) (d : Calls) (live : List Live) (over : Bool) → (k : Stands u v x y a b s) → (r : RunsTo v w y z s.calls d s.live live s.over over) → Writes b c d.session.output
+wrote_to : (u v w : View) (x y z : Shelved) (a b c : Linked) (s : State) (d : Calls) (live : List Waiter) (over : Bool) → (k : Stands u v x y a b s) → (r : RunsTo v w y z s.calls d s.live live s.over over) → Writes b c d.session.output
     → Stands u w x z a c (state (record d { session = record d.session { output = [] } }) live over s.read (min (s.written + length d.session.output) (2 ^ 64 - 1)))
 wrote_to u v w x y z a b c s d live over k r writes =
     let g = gone_on u v w x y z a b s (at d live over []) r.sent d.reader k r.runs in
@@ -278,13 +278,13 @@ wrote_to u v w x y z a b c s d live over k r writes =
 
 -- the loop is left with all written
 wrote_left : (end : ConnEnd) (u w : View) (x z : Shelved) (a b : Linked) (t : State) → (k : Stands u w x z a b t) → t.calls.session.output ≡ [] → IsServing t.calls → t.calls.pending ≡ []
-    → (IsSettled (at t.calls t.live t.over []) → MayStop end (at t.calls t.live t.over [])) → ReadsSo end k.ins k.frames (record (at t.calls t.live t.over []) { end = Some end })
+    → (IsStill (at t.calls t.live t.over []) → MayStop end (at t.calls t.live t.over [])) → ReadsSo end k.ins k.frames (record (at t.calls t.live t.over []) { end = Some end })
     → ((outs : List ℕ) → outs ≡ all_out k.sent → WritesSo end outs k.ins k.frames (record (at t.calls t.live t.over []) { end = Some end }) k.sent)
     → Cause end t.over a b (length k.ins) w.left → Ran end u w x z a b t.read t.written
 wrote_left end u w x z a b t k empty serving pending may reads writes cause =
     ran_so end u w x z a b k.ins k.outs (at t.calls t.live t.over []) k.sent t.calls.reader t.read t.written
     (record { frames = k.frames; steps = k.steps; turns = k.turns; course = k.course; free = refl; does = k.does; given = k.given })
-    (record { may = may (settled t.calls t.live t.over serving pending); reads = reads; writes = writes k.outs (sym (k.output ∙ ap (λ (xs : List ℕ). k.outs ++ xs) empty ∙ append-nil k.outs)); cause = cause })
+    (record { may = may (still t.calls t.live t.over serving pending); reads = reads; writes = writes k.outs (sym (k.output ∙ ap (λ (xs : List ℕ). k.outs ++ xs) empty ∙ append-nil k.outs)); cause = cause })
     k.carries k.read k.written
 
 wrote_into : (u v w : View) (x y z : Shelved) (a b c : Linked) (s : State) (code place : ℕ) (output : List ℕ) (written : ℕ) → (k : Stands u v x y a b s) → RunsInto v w y z s.calls s.live s.over code place output
@@ -297,28 +297,75 @@ wrote_into u v w x y z a b c s code place output written k r writes count =
     let offends : Offends k.ins g.frames r.before.session.part code place r.text = r.offends k.ins k.frames k.bytes k.given in
     let whole : outs ++ [] ≡ all_out (k.sent ++ r.sent) ++ r.text = some_away k.sent r.sent k.outs s.calls.session.output output output [] r.text k.output r.wrote (append-nil output) in
     ran_so (ends.Protocol code place) u w x z a c k.ins outs last (k.sent ++ r.sent) r.before.reader s.read written g
-    (record { may = settled r.before r.waits r.still r.serving r.pending; reads = (r.before.reader, g.given); writes = (r.text, offends, sym (append-nil outs) ∙ whole); cause = tt })
+    (record { may = still r.before r.waits r.still r.serving r.pending; reads = (r.before.reader, g.given); writes = (r.text, offends, sym (append-nil outs) ∙ whole); cause = tt })
     (carries_written a b c k.ins k.outs output k.carries writes) k.read (counted s.written written 0 k.outs output k.written count)
 
-pub settle_wrote : (taken : Taken) (u v w : View) (x y z : Shelved) (a b c : Linked) (s : State) (d : Calls) (live : List Live) (over : Bool) (t : State) → (k : Stands u v x y a b s)
-    → Takes taken v w y z s.calls d s.live live s.over over → (taken ≡ takens.OutOfMemory → ⊥) → Flushes None b c (state d live over s.read s.written) t → Settles (end_of taken) u w x z a c t
+pub settle_wrote : (taken : Taken) (u v w : View) (x y z : Shelved) (a b c : Linked) (s : State) (d : Calls) (live : List Waiter) (over : Bool) (t : State) → (k : Stands u v x y a b s)
+    → Takes taken v w y z s.calls d s.live live s.over over → (taken ≡ takens.OutOfMemory → ⊥) → Flushes None b c (state d live over s.read s.written) t → TakesAll (end_of taken) u w x z a c t
 unfolding wrote_to gone_on
 settle_wrote taken u v w x y z a b c s d live over t k takes fits f =
-    subst (λ (n : State). Settles (end_of taken) u w x z a c n) (sym f.1) (by taken takes fits)
+    subst (λ (n : State). TakesAll (end_of taken) u w x z a c n) (sym f.1) (by taken takes fits)
   where
     now : State
     now = state (record d { session = record d.session { output = [] } }) live over s.read (min (s.written + length d.session.output) (2 ^ 64 - 1))
 
-    by : (taken : Taken) → Takes taken v w y z s.calls d s.live live s.over over → (taken ≡ takens.OutOfMemory → ⊥) → Settles (end_of taken) u w x z a c now
+    by : (taken : Taken) → Takes taken v w y z s.calls d s.live live s.over over → (taken ≡ takens.OutOfMemory → ⊥) → TakesAll (end_of taken) u w x z a c now
     by takens.All h fits = record { stands = wrote_to u v w x y z a b c s d live over k h.0 f.0; stream = h.1 k.ins k.frames k.bytes k.given; empty = refl }
     by takens.Over h fits =
         let st = wrote_to u v w x y z a b c s d live over k h.0 f.0 in
-        wrote_left ends.Done u w x z a c now st refl (record { sound = h.0.serving.sound; role = h.0.serving.role; quiet = h.0.serving.quiet }) h.0.pending (λ m. m) (inr ((d.reader, st.given), (h.1, h.2))) (λ outs e. e) (inr h.1)
+        wrote_left ends.Done u w x z a c now st refl (record { sound = h.0.serving.sound; role = h.0.serving.role; quiet = h.0.serving.quiet }) h.0.pending (λ m. (m, due_over d.session.part live h.2)) (inr ((d.reader, st.given), (h.1, h.2))) (λ outs e. e) (inr h.1)
     by takens.Spent h fits =
         let st = wrote_to u v w x y z a b c s d live over k h.0 f.0 in
         wrote_left ends.Spent u w x z a c now st refl (record { sound = h.0.serving.sound; role = h.0.serving.role; quiet = h.0.serving.quiet }) h.0.pending (λ m. m) (d.reader, st.given) (λ outs e. e) (inr h.1)
     by (takens.Offence code place) h fits = wrote_into u v w x y z a b c s code place d.session.output (min (s.written + length d.session.output) (2 ^ 64 - 1)) k h f.0 refl
     by takens.OutOfMemory h fits = absurd (fits refl)
+
+-- ---- a call was given a turn
+
+-- the frames that were read are the same
+same_frames : (place : Option ℕ) (ins : List ℕ) (ps qs : List (ℕ × Frame)) → qs ≡ [] → IsStream true ins ps None place → IsStream true ins (ps ++ qs) None place
+same_frames place ins ps qs none h = subst (λ (xs : List (ℕ × Frame)). IsStream true ins xs None place) (sym (append-nil ps) ∙ ap (λ (xs : List (ℕ × Frame)). ps ++ xs) (sym none)) h
+
+pub gave_wrote : (u v w : View) (x y z : Shelved) (a b c : Linked) (s : State) (d : Calls) (live : List Waiter) (over : Bool) (t : State) → IsTakenAt u v x y a b s → Wakened v w y z s.calls d s.live live s.over over
+    → Flushes None b c (state d live over s.read s.written) t → IsTakenAt u w x z a c t
+unfolding wrote_to gone_on
+gave_wrote u v w x y z a b c s d live over t k r f =
+    subst (λ (n : State). IsTakenAt u w x z a c n) (sym f.1)
+    (record {
+      stands = wrote_to u v w x y z a b c s d live over k.stands r.run f.0;
+      stream = subst (λ (q : Pending). IsStream true k.stands.ins (k.stands.frames ++ r.run.runs.frames) None (rest_place q)) (sym r.reader) (same_frames (rest_place s.calls.reader) k.stands.ins k.stands.frames r.run.runs.frames r.frames k.stream);
+      empty = refl;
+    })
+
+pub gave_refused : (end : ConnEnd) (u v w : View) (x y z : Shelved) (a b c : Linked) (s : State) (d : Calls) (live : List Waiter) (over : Bool) (t : State) → IsTakenAt u v x y a b s → Wakened v w y z s.calls d s.live live s.over over
+    → Flushes (Some end) b c (state d live over s.read s.written) t → Ran end u w x z a c t.read t.written
+unfolding IsRefusal
+gave_refused end u v w x y z a b c s d live over t k r f =
+    subst (λ (n : ℕ). Ran end u w x z a c n t.written) (sym f.5) (refused_to end u v w x y z a b c s d live over f.0 f.1 t.written k.stands r.run f.2 f.3 f.4 f.6)
+
+pub gave_by : (result : Option ConnEnd) (u v w : View) (x y z : Shelved) (a b c : Linked) (s : State) (d : Calls) (live : List Waiter) (over : Bool) (t : State) → IsTakenAt u v x y a b s → Wakened v w y z s.calls d s.live live s.over over
+    → Flushes result b c (state d live over s.read s.written) t → TakesAll result u w x z a c t
+gave_by None u v w x y z a b c s d live over t k r f = gave_wrote u v w x y z a b c s d live over t k r f
+gave_by (Some end) u v w x y z a b c s d live over t k r f = gave_refused end u v w x y z a b c s d live over t k r f
+
+-- the connection is ready then
+pub ready_given : (v w : View) (y z : Shelved) (b c : Linked) (s : State) (d : Calls) (live : List Waiter) (over : Bool) (t : State) → IsReady s v → Wakened v w y z s.calls d s.live live s.over over → Flushes None b c (state d live over s.read s.written) t
+    → w.entered ≡ true → 2 ^ 29 ≤ w.left → IsReady t w
+ready_given v w y z b c s d live over t ready r f is_in turns =
+    subst (λ (n : State). IsReady n w) (sym f.1)
+    (record {
+      serving = record { sound = r.run.serving.sound; role = r.run.serving.role; quiet = r.run.serving.quiet };
+      pending = r.run.pending;
+      is_in = is_in;
+      turns = turns;
+      fed = omega (arith, ready.fed, ap (λ (q : Pending). q.at + length q.rest) r.reader);
+      few = ready.few;
+    })
+
+-- the door may take too few turns
+pub give_spent : (u w : View) (x z : Shelved) (a b : Linked) (s : State) → IsTakenAt u w x z a b s → IsServing s.calls → s.calls.pending ≡ [] → w.left < 2 ^ 40 → Ran ends.Spent u w x z a b s.read s.written
+give_spent u w x z a b s k serving pending few =
+    wrote_left ends.Spent u w x z a b s k.stands k.empty serving pending (λ m. m) (s.calls.reader, k.stands.given) (λ outs e. e) (inr few)
 
 -- ---- reading
 
@@ -329,47 +376,47 @@ bytes_joined (x ∷ xs) ys p q (suc i) = bytes_joined xs ys (λ j. p (suc j)) q 
 
 pub read_spent : (u w : View) (x z : Shelved) (a b : Linked) (s : State) → IsSettledAt u w x z a b s → IsServing s.calls → s.calls.pending ≡ [] → s.read ≡ 2 ^ 50 → Ran ends.Spent u w x z a b s.read s.written
 read_spent u w x z a b s k serving pending many =
-    wrote_left ends.Spent u w x z a b s k.stands k.empty serving pending (λ m. m) (s.calls.reader, k.stands.given) (λ outs e. e) (inl (sym k.stands.read ∙ many))
+    wrote_left ends.Spent u w x z a b s k.taken.stands k.taken.empty serving pending (λ m. m) (s.calls.reader, k.taken.stands.given) (λ outs e. e) (inl (sym k.taken.stands.read ∙ many))
 
 -- the loop is left at the link as it is after a read
-read_left : (end : ConnEnd) (u w : View) (x z : Shelved) (a b c : Linked) (s : State) → (k : IsSettledAt u w x z a b s) → IsServing s.calls → s.calls.pending ≡ [] → Carries a c k.stands.ins k.stands.outs
-    → (IsSettled (at s.calls s.live s.over []) → MayStop end (at s.calls s.live s.over [])) → ReadsSo end k.stands.ins k.stands.frames (record (at s.calls s.live s.over []) { end = Some end })
-    → ((outs : List ℕ) → outs ≡ all_out k.stands.sent → WritesSo end outs k.stands.ins k.stands.frames (record (at s.calls s.live s.over []) { end = Some end }) k.stands.sent)
-    → Cause end s.over a c (length k.stands.ins) w.left → Ran end u w x z a c s.read s.written
+read_left : (end : ConnEnd) (u w : View) (x z : Shelved) (a b c : Linked) (s : State) → (k : IsSettledAt u w x z a b s) → IsServing s.calls → s.calls.pending ≡ [] → Carries a c k.taken.stands.ins k.taken.stands.outs
+    → (IsSettled (at s.calls s.live s.over []) → MayStop end (at s.calls s.live s.over [])) → ReadsSo end k.taken.stands.ins k.taken.stands.frames (record (at s.calls s.live s.over []) { end = Some end })
+    → ((outs : List ℕ) → outs ≡ all_out k.taken.stands.sent → WritesSo end outs k.taken.stands.ins k.taken.stands.frames (record (at s.calls s.live s.over []) { end = Some end }) k.taken.stands.sent)
+    → Cause end s.over a c (length k.taken.stands.ins) w.left → Ran end u w x z a c s.read s.written
 read_left end u w x z a b c s k serving pending carries may reads writes cause =
-    let st = k.stands in
+    let st = k.taken.stands in
     ran_so end u w x z a c st.ins st.outs (at s.calls s.live s.over []) st.sent s.calls.reader s.read s.written
     (record { frames = st.frames; steps = st.steps; turns = st.turns; course = st.course; free = refl; does = st.does; given = st.given })
-    (record { may = may (settled s.calls s.live s.over serving pending); reads = reads; writes = writes st.outs (sym (st.output ∙ ap (λ (xs : List ℕ). st.outs ++ xs) k.empty ∙ append-nil st.outs)); cause = cause })
+    (record { may = may (still s.calls s.live s.over serving pending, k.none); reads = reads; writes = writes st.outs (sym (st.output ∙ ap (λ (xs : List ℕ). st.outs ++ xs) k.taken.empty ∙ append-nil st.outs)); cause = cause })
     carries st.read st.written
 
 pub read_failed : (u w : View) (x z : Shelved) (a b c : Linked) (s : State) → IsSettledAt u w x z a b s → IsServing s.calls → s.calls.pending ≡ [] → c.left ≡ b.left → c.written ≡ b.written → b.read_faults ≤ c.read_faults → c.write_faults ≡ b.write_faults
     → Rose b.read_faults c.read_faults → Ran ends.ReadFault u w x z a c s.read s.written
 read_failed u w x z a b c s k serving pending left written reads writes rose =
-    read_left ends.ReadFault u w x z a b c s k serving pending (carries_failed a b c k.stands.ins k.stands.outs k.stands.carries left written reads writes) (λ m. m) (rest_place s.calls.reader, k.stream) (λ outs e. e)
-    (rose_since a.read_faults b.read_faults c.read_faults k.stands.carries.read_count rose)
+    read_left ends.ReadFault u w x z a b c s k serving pending (carries_failed a b c k.taken.stands.ins k.taken.stands.outs k.taken.stands.carries left written reads writes) (λ m. m) (rest_place s.calls.reader, k.taken.stream) (λ outs e. e)
+    (rose_since a.read_faults b.read_faults c.read_faults k.taken.stands.carries.read_count rose)
 
 pub read_done : (u w : View) (x z : Shelved) (a b c : Linked) (s : State) (bytes : List ℕ) (n : ℕ) (end : ConnEnd) → IsSettledAt u w x z a b s → IsServing s.calls → s.calls.pending ≡ [] → ReadsBytes b c (take n bytes) → n ≡ 0
     → MeetsEnd b c → end ≡ end_at (rest_place s.calls.reader) → Ran end u w x z a c s.read s.written
 read_done u w x z a b c s bytes n end k serving pending reads none met told =
-    subst (λ (e : ConnEnd). Ran e u w x z a c s.read s.written) (sym told) (by (rest_place s.calls.reader) k.stream)
+    subst (λ (e : ConnEnd). Ran e u w x z a c s.read s.written) (sym told) (by (rest_place s.calls.reader) k.taken.stream)
   where
     no_bytes : take n bytes ≡ []
     no_bytes = ap (λ (m : ℕ). take m bytes) none
 
-    carries : Carries a c k.stands.ins k.stands.outs
-    carries = subst (λ (xs : List ℕ). Carries a c xs k.stands.outs) (ap (λ (xs : List ℕ). k.stands.ins ++ xs) no_bytes ∙ append-nil k.stands.ins)
-        (carries_read a b c k.stands.ins k.stands.outs (take n bytes) k.stands.carries reads.takes reads.written reads.read_count reads.write_count)
+    carries : Carries a c k.taken.stands.ins k.taken.stands.outs
+    carries = subst (λ (xs : List ℕ). Carries a c xs k.taken.stands.outs) (ap (λ (xs : List ℕ). k.taken.stands.ins ++ xs) no_bytes ∙ append-nil k.taken.stands.ins)
+        (carries_read a b c k.taken.stands.ins k.taken.stands.outs (take n bytes) k.taken.stands.carries reads.takes reads.written reads.read_count reads.write_count)
 
-    by : (place : Option ℕ) → IsStream true k.stands.ins k.stands.frames None place → Ran (end_at place) u w x z a c s.read s.written
-    by None stream = read_left ends.Done u w x z a b c s k serving pending carries (λ m. m) (inl stream) (λ outs e. e) (inl (met a k.stands.unmet))
-    by (Some at) stream = read_left (ends.Truncated at) u w x z a b c s k serving pending carries (λ m. m) stream (λ outs e. e) (met a k.stands.unmet)
+    by : (place : Option ℕ) → IsStream true k.taken.stands.ins k.taken.stands.frames None place → Ran (end_at place) u w x z a c s.read s.written
+    by None stream = read_left ends.Done u w x z a b c s k serving pending carries (λ m. m) (inl stream) (λ outs e. e) (inl (met a k.taken.stands.unmet))
+    by (Some at) stream = read_left (ends.Truncated at) u w x z a b c s k serving pending carries (λ m. m) stream (λ outs e. e) (met a k.taken.stands.unmet)
 
 -- bytes were read
-pub read_more : (u w : View) (x z : Shelved) (a b c : Linked) (s t : State) (bytes : List ℕ) → (k : IsSettledAt u w x z a b s) → IsBytes bytes → s.calls.reader.fault ≡ None → Carries a c (k.stands.ins ++ bytes) k.stands.outs → IsUnmet a c
+pub read_more : (u w : View) (x z : Shelved) (a b c : Linked) (s t : State) (bytes : List ℕ) → (k : IsSettledAt u w x z a b s) → IsBytes bytes → s.calls.reader.fault ≡ None → Carries a c (k.taken.stands.ins ++ bytes) k.taken.stands.outs → IsUnmet a c
     → t ≡ record s { calls = record s.calls { reader = fed bytes s.calls.reader }; read = s.read + length bytes } → Stands u w x z a c t
 read_more u w x z a b c s t bytes k are sound carries unmet is =
-    let st = k.stands in
+    let st = k.taken.stands in
     subst (λ (n : State). Stands u w x z a c n) (sym is)
     (record {
       ins = st.ins ++ bytes;
@@ -390,10 +437,10 @@ read_more u w x z a b c s t bytes k are sound carries unmet is =
     })
 
 -- they were read, and memory was wanting for them
-pub read_out : (u w : View) (x z : Shelved) (a b c : Linked) (s : State) (bytes : List ℕ) (read : ℕ) → (k : IsSettledAt u w x z a b s) → s.calls.reader.fault ≡ None → Carries a c (k.stands.ins ++ bytes) k.stands.outs
+pub read_out : (u w : View) (x z : Shelved) (a b c : Linked) (s : State) (bytes : List ℕ) (read : ℕ) → (k : IsSettledAt u w x z a b s) → s.calls.reader.fault ≡ None → Carries a c (k.taken.stands.ins ++ bytes) k.taken.stands.outs
     → read ≡ s.read + length bytes → Ran ends.OutOfMemory u w x z a c read s.written
 read_out u w x z a b c s bytes read k sound carries count =
-    let st = k.stands in
+    let st = k.taken.stands in
     let given = feeds true st.ins bytes st.frames s.calls.reader sound st.given in
     ran_so ends.OutOfMemory u w x z a c (st.ins ++ bytes) st.outs (at s.calls s.live s.over []) st.sent (fed bytes s.calls.reader) read s.written
     (record { frames = st.frames; steps = st.steps; turns = st.turns; course = st.course; free = refl; does = st.does; given = given })
@@ -408,11 +455,11 @@ read_in r u w x z a b c s t buffer n k reads some within are sound takes = by r 
     bytes : List ℕ
     bytes = take n buffer
 
-    carries : Carries a c (k.stands.ins ++ take n buffer) k.stands.outs
-    carries = carries_read a b c k.stands.ins k.stands.outs (take n buffer) k.stands.carries reads.takes reads.written reads.read_count reads.write_count
+    carries : Carries a c (k.taken.stands.ins ++ take n buffer) k.taken.stands.outs
+    carries = carries_read a b c k.taken.stands.ins k.taken.stands.outs (take n buffer) k.taken.stands.carries reads.takes reads.written reads.read_count reads.write_count
 
     by : (r : Option ConnEnd) → TakesIn r s t (take n buffer) → ReadsOn r u w x z a c t
-    by None h = read_more u w x z a b c s t (take n buffer) k are sound carries (reads.unmet (omega (arith, length-take-le n buffer within, some)) a k.stands.unmet) h
+    by None h = read_more u w x z a b c s t (take n buffer) k are sound carries (reads.unmet (omega (arith, length-take-le n buffer within, some)) a k.taken.stands.unmet) h
     by (Some end) h =
         subst (λ (e : ConnEnd). Ran e u w x z a c t.read t.written) (sym h.0)
         (subst (λ (m : ℕ). Ran ends.OutOfMemory u w x z a c t.read m) (sym h.2) (read_out u w x z a b c s (take n buffer) t.read k sound carries h.1))

@@ -2,7 +2,7 @@
 use Rattle.std.specs.Prelude.{◌≡◌, List, [], ◌∷◌}
 use Rattle.h2_frames.specs.declared.frame.Frame.{Frame}
 use Rattle.cas_calls.specs.Script.{Step}
-use Rattle.casd_connection.specs.Exchange.{Item, Read, Tells, Hands, Does, Says, Wrote, Ends, Conn, next, May}
+use Rattle.casd_connection.specs.Exchange.{Item, Read, Tells, Hands, Wakes, Does, Says, Wrote, Ends, Conn, next, May}
 
 -- each item is lawful after those before it, and they lead from one to the other
 abbrev pub Goes : Conn → List Item → Conn → Type 0
@@ -15,6 +15,7 @@ reads [] = []
 reads (Read f ∷ is) = f ∷ reads is
 reads (Tells ∷ is) = reads is
 reads (Hands ∷ is) = reads is
+reads (Wakes i ∷ is) = reads is
 reads (Does x ∷ is) = reads is
 reads (Says ∷ is) = reads is
 reads (Wrote f ∷ is) = reads is
@@ -25,6 +26,7 @@ steps [] = []
 steps (Read f ∷ is) = steps is
 steps (Tells ∷ is) = steps is
 steps (Hands ∷ is) = steps is
+steps (Wakes i ∷ is) = steps is
 steps (Does x ∷ is) = x ∷ steps is
 steps (Says ∷ is) = steps is
 steps (Wrote f ∷ is) = steps is
@@ -35,6 +37,7 @@ writes [] = []
 writes (Read f ∷ is) = writes is
 writes (Tells ∷ is) = writes is
 writes (Hands ∷ is) = writes is
+writes (Wakes i ∷ is) = writes is
 writes (Does x ∷ is) = writes is
 writes (Says ∷ is) = writes is
 writes (Wrote f ∷ is) = f ∷ writes is

@@ -1,6 +1,6 @@
 -- What happens on a connection, one thing after another (RFC 9113; gRPC over HTTP/2): `next` computes what a connection is after
 -- an item, and `May` is the law of each kind of item, by what the items before it have made.
-use Rattle.std.specs.Prelude.{◌≡◌, ◌==◌, ◌++◌, nat_le, length, ℕ, Bool, true, false, List, [], ◌∷◌, Option, Some, None, position, slice_get, slice_set, remove, if◌then◌else◌}
+use Rattle.std.specs.Prelude.{◌≡◌, ◌==◌, ◌&&◌, ◌++◌, nat_le, length, ℕ, Bool, true, false, List, [], ◌∷◌, All, Option, Some, None, position, slice_get, slice_set, remove, if◌then◌else◌}
 use Rattle.h2_frames.specs.declared.frame.Frame.{Frame}
 use Rattle.h2_session.specs.declared.event.SessionEvent.{SessionEvent}
 use Rattle.h2_session.specs.declared.event.Out.TheVariants as outs
@@ -8,7 +8,7 @@ use Rattle.h2_session.specs.declared.role.Role.TheVariants as roles
 use Rattle.h2_session.specs.Part.{Part, new_part, stream_of}
 use Rattle.h2_session.specs.Faults.{offence}
 use Rattle.h2_session.specs.Heard.{heard}
-use Rattle.h2_session.specs.Said.{said, may_say}
+use Rattle.h2_session.specs.Said.{said, may_say, waiting}
 use Rattle.h2_session.specs.Sent.{MaySend, sent, IsQuiet}
 use Rattle.casd_base.specs.declared.status.Status.{Status}
 use Rattle.grpc_calls.specs.declared.event.CallEvent.{CallEvent}
@@ -17,14 +17,12 @@ use Rattle.grpc_calls.specs.Framing.{framed}
 use Rattle.grpc_calls.specs.Headers.{answer_headers, refusal_headers, trailers}
 use Rattle.grpc_calls.specs.Streams.{Row, Refused, Told, told, is_fresh, without_call}
 use Rattle.cas_calls.specs.Script.{Script, End, Make, Room, Ask, Step, Takes, after}
-use Rattle.live_calls.specs.Turns.{Turn, begun, turn_at}
-use Rattle.live_calls.specs.declared.place.Place.{Place}
-use Rattle.live_calls.specs.declared.place.Place.TheVariants as places
+use Rattle.live_calls.specs.Turns.{Ending, Turn, begun, turn_at}
+use Rattle.live_calls.specs.Places.{Waiting, is_giving}
 use Rattle.live_calls.specs.declared.happening.Happening.{Happening}
 use Rattle.live_calls.specs.declared.happening.Happening.TheVariants as happenings
-use Rattle.live_calls.specs.declared.outcome.Outcome.{Outcome}
 use Rattle.live_calls.specs.declared.outcome.Outcome.TheVariants as outcomes
-use Rattle.casd_connection.specs.declared.live.Live.{Live}
+use Rattle.casd_connection.specs.Waiters.{Waiter}
 use Rattle.casd_connection.specs.declared.end.ConnEnd.{ConnEnd}
 use Rattle.casd_connection.specs.declared.end.ConnEnd.TheVariants as ends
 
@@ -35,6 +33,8 @@ pub data Item : Type 0 where
   Tells : Item
   -- the next event of the frame is handed to its call, which takes its turn
   Hands : Item
+  -- a call that gives responses of its own accord is given a turn, by its row
+  Wakes : ℕ → Item
   -- the call whose turn it is takes a step: an entry, an answer of the shelf, or want of memory
   Does : Step → Item
   -- the next part of an answer is handed in
@@ -73,7 +73,7 @@ pub record Conn : Type 0 where
   -- what is to be handed in
   pub saying : List Saying
   -- where each call waits that isn't answered, in the order in which they began
-  pub live : List Live
+  pub live : List Waiter
   pub busy : Option Busy
   -- a GOAWAY of the peer was handed over
   pub over : Bool
@@ -95,16 +95,16 @@ start = record {
 -- ---- the calls that wait
 
 -- where the call of a stream stands
-abbrev pub place_in : ℕ → List Live → Option ℕ
-place_in n live = position (λ (l : Live). l.stream == n) live
+abbrev pub place_in : ℕ → List Waiter → Option ℕ
+place_in n live = position (λ (l : Waiter). l.stream == n) live
 
 -- a call waits: in its row, or in a new one
-abbrev pub placed : ℕ → Option ℕ → Place → List Live → List Live
+abbrev pub placed : ℕ → Option ℕ → Waiting → List Waiter → List Waiter
 placed n None place live = live ++ record { stream = n; place = place } ∷ []
 placed n (Some i) place live = slice_set live i (record { stream = n; place = place })
 
 -- it doesn't wait any longer
-abbrev pub gone : Option ℕ → List Live → List Live
+abbrev pub gone : Option ℕ → List Waiter → List Waiter
 gone None live = live
 gone (Some i) live = remove live i
 
@@ -120,8 +120,9 @@ answer n None status = Finish n (sendable status) ∷ []
 answer n (Some message) status = Reply n message ∷ Finish n (sendable status) ∷ []
 
 -- how a turn ends
-abbrev pub ended : Outcome → ℕ → Option ℕ → Conn → Conn
+abbrev pub ended : Ending → ℕ → Option ℕ → Conn → Conn
 ended (outcomes.Rests place) n row c = record c { live = placed n row place c.live }
+ended (outcomes.Gives message place) n row c = record c { live = placed n row place c.live; saying = Reply n message ∷ [] }
 ended (outcomes.Finishes message status) n row c = record c { live = gone row c.live; saying = answer n message status }
 ended outcomes.Vanishes n row c = record c { live = gone row c.live }
 
@@ -131,7 +132,7 @@ go (End outcome) n row c = ended outcome n row c
 go turn n row c = record c { busy = Some (record { stream = n; row = row; turn = turn }) }
 
 -- something happens to the call of a row
-abbrev pub resumed_at : Happening → ℕ → Option Live → Conn → Conn
+abbrev pub resumed_at : Happening → ℕ → Option Waiter → Conn → Conn
 resumed_at h i None c = c
 resumed_at h i (Some l) c = go (turn_at l.place h) l.stream (Some i) c
 
@@ -192,6 +193,7 @@ abbrev pub next : Conn → Item → Conn
 next c (Read f) = record c { part = (heard c.part f).part; meaning = (heard c.part f).event }
 next c Tells = telling (told c.part c.meaning c.rows) c
 next c Hands = handed c.pending c
+next c (Wakes i) = resumed happenings.Woken (Some i) c
 next c (Does x) = stepped c.busy x c
 next c Says = spoken_first c.saying c
 next c (Wrote f) = record c { part = sent c.part f }
@@ -212,29 +214,48 @@ pub record IsIdle (c : Conn) : Type 0 where
   pub pending : c.pending ≡ []
   pub saying : c.saying ≡ []
 
+-- A call is due: it gives responses of its own accord, its answer isn't ended, and none of it waits for a window.
+abbrev pub is_due : Part → Waiter → Bool
+is_due p l = is_giving l.place && is_sending l.stream p && (waiting (stream_of l.stream p) == 0)
+
+-- the call of this row is
+pub record IsDue (c : Conn) (i : ℕ) : Type 0 where
+  pub call : Waiter
+  pub is_there : slice_get c.live i ≡ Some call
+  pub due : is_due c.part call ≡ true
+
+-- of all that wait, none is
+abbrev pub NoneDue : Part → List Waiter → Type 0
+NoneDue p live = All (λ l. is_due p l ≡ false) live
+
 abbrev pub MayTake : Option Busy → Step → Type 0
 MayTake None x = ⊥
 MayTake (Some b) x = Takes b.turn x
 
--- An end with all done that the last frame calls for, and all written that the windows allow. So a call lacks its answer only
--- where the peer hasn't half-closed it, and trailers are unsent only behind bytes that wait for a window.
+-- All is done that the last frame calls for, and all is written that the windows allow.
+abbrev pub IsStill : Conn → Type 0
+IsStill c = IsIdle c × IsQuiet c.part
+
+-- An end at which no call is due either. So a call lacks its answer only where the peer hasn't half-closed it, and messages or
+-- trailers are unsent only behind bytes that wait for a window.
 abbrev pub IsSettled : Conn → Type 0
-IsSettled c = IsIdle c × IsQuiet c.part
+IsSettled c = IsStill c × NoneDue c.part c.live
 
 -- the law of each end
 abbrev pub MayStop : ConnEnd → Conn → Type 0
 MayStop ends.Done c = IsSettled c
 MayStop (ends.Truncated at) c = IsSettled c
-MayStop (ends.Protocol code at) c = IsSettled c
+MayStop (ends.Protocol code at) c = IsStill c
 MayStop ends.ReadFault c = IsSettled c
-MayStop ends.WriteFault c = IsSettled c
-MayStop ends.Spent c = IsSettled c
+MayStop ends.WriteFault c = IsStill c
+MayStop ends.Spent c = IsStill c
 MayStop ends.OutOfMemory c = Unit {0}
 
 abbrev pub May : Conn → Item → Type 0
 May c (Read f) = IsIdle c × (offence c.part f ≡ None)
 May c Tells = IsFree c × (e : SessionEvent) × (c.meaning ≡ Some e)
 May c Hands = IsFree c × (c.meaning ≡ None) × (c.saying ≡ []) × (e : CallEvent) × (es : List CallEvent) × (c.pending ≡ e ∷ es)
+May c (Wakes i) = IsStill c × IsDue c i
 May c (Does x) = (c.end ≡ None) × MayTake c.busy x
 May c Says = IsFree c × (x : Saying) × (xs : List Saying) × (c.saying ≡ x ∷ xs)
 May c (Wrote f) = IsFree c × MaySend c.part f

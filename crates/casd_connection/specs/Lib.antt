@@ -1,3 +1,4 @@
+pub mod Waiters
 pub mod Exchange
 pub mod Course
 pub mod Linked

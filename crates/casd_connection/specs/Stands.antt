@@ -15,13 +15,13 @@ use Rattle.grpc_calls.specs.Calls.{Calls}
 use Rattle.blob_store.specs.View.{View}
 use Rattle.blob_store.specs.Shelves.{Shelved}
 use Rattle.cas_calls.specs.Script.{Step}
-use Rattle.casd_connection.specs.declared.live.Live.{Live}
+use Rattle.casd_connection.specs.Waiters.{Waiter}
 use Rattle.casd_connection.specs.declared.end.ConnEnd.{ConnEnd}
 use Rattle.casd_connection.specs.declared.end.ConnEnd.TheVariants as ends
 use Rattle.casd_connection.specs.declared.frames.Taken.{Taken}
 use Rattle.casd_connection.specs.declared.frames.Taken.TheVariants as takens
 use Rattle.casd_connection.specs.Writes.{Writes}
-use Rattle.casd_connection.specs.Exchange.{start}
+use Rattle.casd_connection.specs.Exchange.{NoneDue, start}
 use Rattle.casd_connection.specs.Course.{Course}
 use Rattle.casd_connection.specs.Linked.{Linked, Carries, IsUnmet}
 use Rattle.casd_connection.specs.Written.{Written, Cause, frames_of, all_out}
@@ -30,12 +30,12 @@ use Rattle.casd_connection.specs.Steps.{IsServing, Does, at}
 -- what the code keeps of a connection: its calls, where they wait, whether a GOAWAY came, and how many bytes were read and written
 pub record State : Type 0 where
   pub calls : Calls
-  pub live : List Live
+  pub live : List Waiter
   pub over : Bool
   pub read : ℕ
   pub written : ℕ
 
-abbrev pub state : Calls → List Live → Bool → ℕ → ℕ → State
+abbrev pub state : Calls → List Waiter → Bool → ℕ → ℕ → State
 state calls live over read written = record { calls = calls; live = live; over = over; read = read; written = written }
 
 -- it can go on: its owner is at the door, which has turns left, and no event waits
@@ -64,11 +64,16 @@ pub record Stands (v w : View) (x y : Shelved) (a b : Linked) (s : State) : Type
   pub read : s.read ≡ length ins
   pub written : s.written ≡ min (length outs) (2 ^ 64 - 1)
 
--- all frames that are whole were taken, and all that is due was written
-pub record IsSettledAt (v w : View) (x y : Shelved) (a b : Linked) (s : State) : Type 0 where
+-- all frames that are whole were taken, and all that they call for was written
+pub record IsTakenAt (v w : View) (x y : Shelved) (a b : Linked) (s : State) : Type 0 where
   pub stands : Stands v w x y a b s
   pub stream : IsStream true stands.ins stands.frames None (rest_place s.calls.reader)
   pub empty : s.calls.session.output ≡ []
+
+-- and no call is due
+pub record IsSettledAt (v w : View) (x y : Shelved) (a b : Linked) (s : State) : Type 0 where
+  pub taken : IsTakenAt v w x y a b s
+  pub none : NoneDue s.calls.session.part s.live
 
 -- the loop is left so
 pub record Ran (end : ConnEnd) (v w : View) (x y : Shelved) (a b : Linked) (read written : ℕ) : Type 0 where
@@ -82,6 +87,10 @@ pub record Ran (end : ConnEnd) (v w : View) (x y : Shelved) (a b : Linked) (read
   pub cause : Cause end whole.last.over a b (length ins) w.left
   pub read_is : read ≡ length ins
   pub written_is : written ≡ min (length outs) (2 ^ 64 - 1)
+
+abbrev pub TakesAll : Option ConnEnd → View → View → Shelved → Shelved → Linked → Linked → State → Type 0
+TakesAll None v w x y a b s = IsTakenAt v w x y a b s
+TakesAll (Some end) v w x y a b s = Ran end v w x y a b s.read s.written
 
 abbrev pub Settles : Option ConnEnd → View → View → Shelved → Shelved → Linked → Linked → State → Type 0
 Settles None v w x y a b s = IsSettledAt v w x y a b s

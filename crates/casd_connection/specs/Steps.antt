@@ -1,20 +1,23 @@
 -- What each part of the loop does, as a part of the exchange.
 use Rattle.grpc_calls.specs.Streams.{Row}
-use Rattle.std.specs.Prelude.{◌≡◌, ◌⊎◌, ◌^◌, ◌+◌, ◌≤◌, ◌<◌, ℕ, Bool, true, false, List, [], ◌∷◌, ◌++◌, Option, Some, None, Result, Ok, Err}
+use Rattle.std.specs.Prelude.{◌≡◌, ◌==◌, ◌&&◌, ◌⊎◌, ◌^◌, ◌+◌, ◌≤◌, ◌<◌, ℕ, Bool, true, false, List, [], ◌∷◌, ◌++◌, slice_get, Option, IfSome, Some, None, Result, Ok, Err}
+use Rattle.std.specs.List.{sum_by}
 use Rattle.proto_wire.specs.Reading.{IsBytes}
 use Rattle.h2_frames.specs.declared.frame.Frame.{Frame}
 use Rattle.h2_frames.specs.Stream.{Pending, rest_place}
 use Rattle.h2_frames.specs.Grammar.{IsStream, HasGiven}
 use Rattle.h2_session.specs.declared.role.Role.TheVariants as roles
-use Rattle.h2_session.specs.Part.{Part}
+use Rattle.h2_session.specs.Part.{Part, stream_of}
+use Rattle.h2_session.specs.Said.{waiting}
 use Rattle.h2_session.specs.Sent.{IsQuiet, spellings}
 use Rattle.grpc_calls.specs.declared.event.CallEvent.{CallEvent}
-use Rattle.grpc_calls.specs.Calls.{Calls}
+use Rattle.grpc_calls.specs.Calls.{Calls, may_reply}
 use Rattle.blob_store.specs.View.{View, Turns, own_now}
 use Rattle.blob_store.specs.Shelves.{Shelved}
 use Rattle.cas_calls.specs.Script.{Step, made}
 use Rattle.cas_calls.specs.Plays.{Shelves}
-use Rattle.casd_connection.specs.declared.live.Live.{Live}
+use Rattle.live_calls.specs.Places.{is_giving, turns_due}
+use Rattle.casd_connection.specs.Waiters.{Waiter}
 use Rattle.casd_connection.specs.declared.frames.Stop.{Stop}
 use Rattle.casd_connection.specs.declared.frames.Stop.TheVariants as stops
 use Rattle.casd_connection.specs.declared.frames.Taken.{Taken}
@@ -24,7 +27,7 @@ use Rattle.casd_connection.specs.Course.{Course}
 use Rattle.casd_connection.specs.Written.{frames_of, Offends}
 
 -- a connection on which no call has a turn, and all that the last frame means was told
-abbrev pub conn : Part → List Row → List CallEvent → List Live → Bool → List Saying → Conn
+abbrev pub conn : Part → List Row → List CallEvent → List Waiter → Bool → List Saying → Conn
 conn p rows es live over xs = record {
   part = p;
   meaning = None;
@@ -38,7 +41,7 @@ conn p rows es live over xs = record {
 }
 
 -- the one that the code stands for
-abbrev pub at : Calls → List Live → Bool → List Saying → Conn
+abbrev pub at : Calls → List Waiter → Bool → List Saying → Conn
 at c live over xs = conn c.session.part c.calls c.pending live over xs
 
 -- a server that goes on, and has nothing that may be written
@@ -62,7 +65,7 @@ pub record Moves (c d : Conn) (frames : List Frame) (steps : List Step) (old new
 
 -- all of this was handed in
 pub record Speaks (old new : Calls) (xs : List Saying) : Type 0 where
-  pub moves : (live : List Live) (over : Bool) (more : List Saying) → Moves (at old live over (xs ++ more)) (at new live over more) [] [] old.session.output new.session.output
+  pub moves : (live : List Waiter) (over : Bool) (more : List Saying) → Moves (at old live over (xs ++ more)) (at new live over more) [] [] old.session.output new.session.output
   pub keeps : Keeps old new
 
 -- what was done at the door and the shelf on the way
@@ -114,7 +117,7 @@ pub record Waits (c d : Calls) : Type 0 where
   pub given : (ins : List ℕ) (ps : List (ℕ × Frame)) → IsBytes ins → HasGiven true ins ps c.reader → HasGiven true ins ps d.reader × IsStream true ins ps None (rest_place d.reader)
 
 -- how a frame was taken
-abbrev pub Stops : Result Bool Stop → View → View → Shelved → Shelved → Calls → Calls → List Live → List Live → Bool → Bool → Type 0
+abbrev pub Stops : Result Bool Stop → View → View → Shelved → Shelved → Calls → Calls → List Waiter → List Waiter → Bool → Bool → Type 0
 Stops (Ok false) v w x y c d live live' over over' = Does v w x y 0 [] × Waits c d × (live' ≡ live) × (over' ≡ over)
 Stops (Ok true) v w x y c d live live' over over' =
     ((n : ℕ) × Framed v w x y n (at c live over []) (at d live' over' []) c.session.output d.session.output c.reader d.reader) × IsServing d × (d.pending ≡ [])
@@ -132,7 +135,7 @@ pub record Runs (v w : View) (x y : Shelved) (c : Conn) (last : Conn) (sent : Li
   pub given : (ins : List ℕ) (ps : List (ℕ × Frame)) → IsBytes ins → HasGiven true ins ps r → HasGiven true ins (ps ++ frames) s
 
 -- All of them, up to where the code stands.
-pub record RunsTo (v w : View) (x y : Shelved) (c d : Calls) (live live' : List Live) (over over' : Bool) : Type 0 where
+pub record RunsTo (v w : View) (x y : Shelved) (c d : Calls) (live live' : List Waiter) (over over' : Bool) : Type 0 where
   pub sent : List Frame
   pub runs : Runs v w x y (at c live over []) (at d live' over' []) sent c.reader d.reader
   pub output : d.session.output ≡ c.session.output ++ spellings sent
@@ -140,10 +143,10 @@ pub record RunsTo (v w : View) (x y : Shelved) (c d : Calls) (live live' : List 
   pub pending : d.pending ≡ []
 
 -- They were read up to an offence, which is told by the last bytes of the output.
-pub record RunsInto (v w : View) (x y : Shelved) (c : Calls) (live : List Live) (over : Bool) (code place : ℕ) (output : List ℕ) : Type 0 where
+pub record RunsInto (v w : View) (x y : Shelved) (c : Calls) (live : List Waiter) (over : Bool) (code place : ℕ) (output : List ℕ) : Type 0 where
   pub sent : List Frame
   pub before : Calls
-  pub waits : List Live
+  pub waits : List Waiter
   pub still : Bool
   pub runs : Runs v w x y (at c live over []) (at before waits still []) sent c.reader before.reader
   pub serving : IsServing before
@@ -153,18 +156,37 @@ pub record RunsInto (v w : View) (x y : Shelved) (c : Calls) (live : List Live) 
   pub offends : (ins : List ℕ) (ps : List (ℕ × Frame)) → IsBytes ins → HasGiven true ins ps c.reader → Offends ins (ps ++ runs.frames) before.session.part code place text
 
 -- They were read until memory ran out.
-pub record RunsOut (v w : View) (x y : Shelved) (c : Calls) (live : List Live) (over : Bool) : Type 0 where
+pub record RunsOut (v w : View) (x y : Shelved) (c : Calls) (live : List Waiter) (over : Bool) : Type 0 where
   pub sent : List Frame
   pub last : Conn
   pub reader : Pending
   pub runs : Runs v w x y (at c live over []) last sent c.reader reader
+
+-- whether a call is due, as the code asks
+abbrev pub is_due_in : Calls → Waiter → Bool
+is_due_in c l = is_giving l.place && may_reply l.stream c && (waiting (stream_of l.stream c.session.part) == 0)
+
+-- how many turns the calls may still take of their own accord
+abbrev pub due_in : List Waiter → ℕ
+due_in live = sum_by (λ (l : Waiter). turns_due l.place) live
+
+-- The call of a row gave a response or ended, where it may take such turns, and so has fewer of them left.
+abbrev pub ComesNearer : ℕ → List Waiter → List Waiter → Type 0
+ComesNearer i old new = IfSome (slice_get old i) (λ l. is_giving l.place ≡ true → due_in new < due_in old)
+
+-- A call took a turn of its own, and no frame was read.
+pub record Wakened (v w : View) (x y : Shelved) (c d : Calls) (live live' : List Waiter) (over over' : Bool) : Type 0 where
+  pub run : RunsTo v w x y c d live live' over over'
+  pub frames : run.runs.frames ≡ []
+  pub reader : d.reader ≡ c.reader
+  pub less : due_in live' < due_in live
 
 -- no further frame is there
 abbrev pub IsAll : List (ℕ × Frame) → Pending → Pending → Type 0
 IsAll frames r s = (ins : List ℕ) (ps : List (ℕ × Frame)) → IsBytes ins → HasGiven true ins ps r → IsStream true ins (ps ++ frames) None (rest_place s)
 
 -- how the frames of a piece were taken
-abbrev pub Takes : Taken → View → View → Shelved → Shelved → Calls → Calls → List Live → List Live → Bool → Bool → Type 0
+abbrev pub Takes : Taken → View → View → Shelved → Shelved → Calls → Calls → List Waiter → List Waiter → Bool → Bool → Type 0
 Takes takens.All v w x y c d live live' over over' = (k : RunsTo v w x y c d live live' over over') × IsAll k.runs.frames c.reader d.reader
 Takes takens.Over v w x y c d live live' over over' = RunsTo v w x y c d live live' over over' × (over' ≡ true) × (d.session.part.streams ≡ [])
 Takes (takens.Offence code place) v w x y c d live live' over over' = RunsInto v w x y c live over code place d.session.output

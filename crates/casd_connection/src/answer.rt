@@ -68,6 +68,17 @@ fn reply_and_finish(
     finish(calls, stream, status)
 }
 
+/// Hands in a message that isn't the last.
+pub(crate) fn give(calls: &mut Calls, stream: u32, message: &[u8]) -> Result<(), OutOfMemory>
+    requires serving { IsServing calls.old }
+    ensures { OnOk result (Speaks calls.old calls.new (Reply stream message.now ∷ [])) }
+{
+    if u32::try_from(message.len()).is_err() {
+        return Err(OutOfMemory);
+    }
+    reply(calls, stream, message)
+}
+
 /// Hands in an answer: a message, if there is one, and the status.
 pub(crate) fn answer(
     calls: &mut Calls,

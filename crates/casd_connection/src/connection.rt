@@ -1,12 +1,14 @@
 //! The calls of a connection, and the turn of one of them.
 
-ghost use Rattle.std.specs.Prelude.{◌≡◌, ◌≤◌, ◌<◌, ◌^◌, [], true, length, slice_get, vec_len, vec_capacity, IfSome, OnOk, OnErr, Some, None};
-ghost use Rattle.live_calls.specs.declared.place.Place.TheVariants as places;
+ghost use Rattle.std.specs.Prelude.{◌≡◌, ◌≤◌, ◌<◌, ◌^◌, [], true, length, position, slice_get, vec_len, vec_capacity, IfSome, OnOk, OnErr, Some, None};
+ghost use Rattle.live_calls.specs.Places.{Away, turns_due};
 ghost use Rattle.live_calls.specs.Turns.{begun};
-ghost use Rattle.casd_connection.specs.Exchange.{placed, gone, ended, go, given, resumed, resumed_at, place_in};
-ghost use Rattle.casd_connection.specs.Steps.{at, IsServing, Keeps, Moves, Turned, Broken};
+ghost use Rattle.live_calls.specs.Afterwards.{due_after};
+ghost use Rattle.live_calls.specs.declared.happening.Happening.TheVariants as happenings;
+ghost use Rattle.casd_connection.specs.Exchange.{placed, gone, ended, go, given, resumed, resumed_at, place_in, IsDue, NoneDue};
+ghost use Rattle.casd_connection.specs.Steps.{at, IsServing, Keeps, Moves, Turned, Broken, RunsOut, Wakened, ComesNearer, is_due_in};
 
-use crate::answer::answer;
+use crate::answer::{answer, give};
 use crate::live::{Live, place_in};
 use blob_store::{Door, Shelf};
 use grpc_calls::{CallEvent, Calls};
@@ -16,20 +18,36 @@ use std::alloc::Global;
 use std::mem;
 
 #[derive(Drop)]
-pub(crate) struct Connection {
+pub(crate) struct Connection<K: Shelf> {
     pub(crate) alloc: Global,
     pub(crate) calls: Calls,
-    pub(crate) live: Vec<Live>,
+    pub(crate) live: Vec<Live<Place<K>>>,
     /// A GOAWAY of the peer came.
     pub(crate) over: bool,
+    /// The row behind that of the call which gave the last response: the next one that is due is looked for from there.
+    pub(crate) turn: usize,
 }
 
-impl Connection {
+/// Whether a call is due: it gives responses of its own accord, and none of them waits for a window.
+fn is_due<K: Shelf>(calls: &Calls, call: &Live<Place<K>>) -> bool
+    ensures { result ≡ is_due_in calls.now call.now }
+{
+    call.place.is_giving() && calls.is_live(call.stream) && calls.waiting(call.stream) == 0
+}
+
+/// The first of these calls that is due, if one is.
+fn due_in<K: Shelf>(calls: &Calls, live: &[Live<Place<K>>]) -> Option<usize>
+    ensures { result ≡ position (λ l. is_due_in calls.now l) live.now }
+{
+    live.iter().position(|call| is_due(calls, call))
+}
+
+impl<K: Shelf> Connection<K> {
     /// Takes the call of a row out, for its turn.
-    fn take_row(&mut self, row: usize) -> Live
+    fn take_row(&mut self, row: usize) -> Live<Place<K>>
         requires { row < length self.old.live.items }
         ensures call { slice_get self.old.live.items row ≡ Some result }
-        ensures live { self.new.live.items ≡ placed result.stream (Some row) places.Away self.old.live.items }
+        ensures live { self.new.live.items ≡ placed result.stream (Some row) Away self.old.live.items }
         ensures rest { (self.new.calls ≡ self.old.calls) × (self.new.over ≡ self.old.over) }
     {
         let call = &mut self.live[row];
@@ -38,13 +56,13 @@ impl Connection {
             call,
             Live {
                 stream,
-                place: Place::Away,
+                place: Place::away(),
             },
         )
     }
 
     /// Puts a call where it waits: in its row, or in a new one.
-    fn put_row(&mut self, row: Option<usize>, call: Live)
+    fn put_row(&mut self, row: Option<usize>, call: Live<Place<K>>)
         requires room { row ≡ None → vec_len self.old.live < vec_capacity self.old.live }
         requires within { IfSome row (λ i. i < length self.old.live.items) }
         ensures live { self.new.live.items ≡ placed call.stream row call.place self.old.live.items }
@@ -74,18 +92,23 @@ impl Connection {
         &mut self,
         stream: u32,
         row: Option<usize>,
-        outcome: Outcome,
+        outcome: Outcome<Place<K>>,
     ) -> Result<(), OutOfMemory>
         requires serving { IsServing self.old.calls }
         requires room { row ≡ None → vec_len self.old.live < vec_capacity self.old.live }
         requires within { IfSome row (λ i. i < length self.old.live.items) }
         ensures ok { OnOk result (Moves (ended outcome stream row (at self.old.calls self.old.live.items self.old.over [])) (at self.new.calls self.new.live.items self.new.over []) [] [] self.old.calls.session.output self.new.calls.session.output) }
         ensures kept { OnOk result (Keeps self.old.calls self.new.calls) }
+        ensures table { self.new.live.items ≡ (ended outcome stream row (at self.old.calls self.old.live.items self.old.over [])).live }
     {
         match outcome {
             Outcome::Rests(place) => {
                 self.put_row(row, Live { stream, place });
                 Ok(())
+            }
+            Outcome::Gives { message, place } => {
+                self.put_row(row, Live { stream, place });
+                give(&mut self.calls, stream, message.as_slice())
             }
             Outcome::Finishes { message, status } => {
                 self.remove_row(row);
@@ -106,11 +129,11 @@ impl Connection {
     {
         // The room for the call comes before its turn.
         self.live.reserve(1)?;
-        self.apply(stream, None, begin(path))
+        self.apply(stream, None, begin::<K>(path))
     }
 
     /// Something happens to the call of a row.
-    fn resume_row<K: Shelf, D: Door<K>>(
+    fn resume_row<D: Door<K>>(
         &mut self,
         door: &mut D,
         shelf: &mut K,
@@ -124,14 +147,50 @@ impl Connection {
         ensures ok { OnOk result (Turned (D.view door.old) (D.view door.new) (K.shelved shelf.old) (K.shelved shelf.new) (2 ^ 22) (resumed_at happening row (slice_get self.old.live.items row) (at self.old.calls self.old.live.items self.old.over [])) (at self.new.calls self.new.live.items self.new.over []) self.old.calls.session.output self.new.calls.session.output) }
         ensures kept { OnOk result (Keeps self.old.calls self.new.calls) }
         ensures err { OnErr result (Broken (D.view door.old) (D.view door.new) (K.shelved shelf.old) (K.shelved shelf.new) (2 ^ 22) (resumed_at happening row (slice_get self.old.live.items row) (at self.old.calls self.old.live.items self.old.over [])) []) }
+        ensures less { OnOk result (happening ≡ happenings.Woken → ComesNearer row self.old.live.items self.new.live.items) }
     {
         let Live { stream, place } = self.take_row(row);
         let outcome = resume(self.alloc, door, shelf, place, happening);
         self.apply(stream, Some(row), outcome)
     }
 
+    /// The call of a row is given a turn of its own.
+    pub(crate) fn wake<D: Door<K>>(
+        &mut self,
+        door: &mut D,
+        shelf: &mut K,
+        row: usize,
+    ) -> Result<(), OutOfMemory>
+        requires serving { IsServing self.old.calls }
+        requires empty { self.old.calls.pending ≡ [] }
+        requires due { IsDue (at self.old.calls self.old.live.items self.old.over []) row }
+        requires is_in { (D.view door.old).entered ≡ true }
+        requires turns { 2 ^ 30 ≤ (D.view door.old).left }
+        ensures ok { OnOk result (Wakened (D.view door.old) (D.view door.new) (K.shelved shelf.old) (K.shelved shelf.new) self.old.calls self.new.calls self.old.live.items self.new.live.items self.old.over self.new.over) }
+        ensures err { OnErr result (RunsOut (D.view door.old) (D.view door.new) (K.shelved shelf.old) (K.shelved shelf.new) self.old.calls self.old.live.items self.old.over) }
+        ensures is_in { (D.view door.new).entered ≡ true }
+        ensures turns { 2 ^ 29 ≤ (D.view door.new).left }
+    {
+        self.turn = row + 1;
+        self.resume_row(door, shelf, row, Happening::Woken)
+    }
+
+    /// The row of a call that is due, if one is: the next one from the last response on.
+    pub(crate) fn next_due(&self) -> Option<usize>
+        requires serving { IsServing self.now.calls }
+        ensures due { IfSome result (IsDue (at self.now.calls self.now.live.items self.now.over [])) }
+        ensures within { IfSome result (λ i. i < length self.now.live.items) }
+        ensures none { result ≡ None → NoneDue self.now.calls.session.part self.now.live.items }
+    {
+        let from = self.turn.min(self.live.len());
+        match due_in(&self.calls, &self.live[from..]) {
+            Some(i) => Some(from + i),
+            None => due_in(&self.calls, &self.live),
+        }
+    }
+
     /// Something happens to the call of a stream, if it waits.
-    fn resume<K: Shelf, D: Door<K>>(
+    fn resume<D: Door<K>>(
         &mut self,
         door: &mut D,
         shelf: &mut K,
@@ -155,7 +214,7 @@ impl Connection {
     }
 
     /// Hands an event to its call.
-    pub(crate) fn on_event<K: Shelf, D: Door<K>>(
+    pub(crate) fn on_event<D: Door<K>>(
         &mut self,
         door: &mut D,
         shelf: &mut K,

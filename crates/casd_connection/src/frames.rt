@@ -13,7 +13,7 @@ use proto_wire::OutOfMemory;
 const TURNS: u64 = 1 << 30;
 
 /// How many turns of the door a frame may need.
-const MANY_TURNS: u64 = 1 << 40;
+pub(crate) const MANY_TURNS: u64 = 1 << 40;
 
 /// How the frames of a piece of input were taken.
 #[derive(Clone, Copy, Debug, PartialEq, Eq)]
@@ -36,13 +36,9 @@ pub(crate) enum Stop {
     OutOfMemory,
 }
 
-impl Connection {
+impl<K: Shelf> Connection<K> {
     /// Hands the events of the last frame to their calls, one after the other.
-    fn on_events<K: Shelf, D: Door<K>>(
-        &mut self,
-        door: &mut D,
-        shelf: &mut K,
-    ) -> Result<(), OutOfMemory>
+    fn on_events<D: Door<K>>(&mut self, door: &mut D, shelf: &mut K) -> Result<(), OutOfMemory>
         requires serving { IsServing self.old.calls }
         requires is_in { (D.view door.old).entered ≡ true }
         requires turns { 2 ^ 29 ≤ (D.view door.old).left }
@@ -65,7 +61,7 @@ impl Connection {
     }
 
     /// Reads the next frame, if it is there whole, and does all that it calls for.
-    fn on_frame<K: Shelf, D: Door<K>>(&mut self, door: &mut D, shelf: &mut K) -> Result<bool, Stop>
+    fn on_frame<D: Door<K>>(&mut self, door: &mut D, shelf: &mut K) -> Result<bool, Stop>
         requires serving { IsServing self.old.calls }
         requires empty { self.old.calls.pending ≡ [] }
         requires is_in { (D.view door.old).entered ≡ true }
@@ -96,7 +92,7 @@ impl Connection {
     }
 
     /// Takes all frames that are whole.
-    pub(crate) fn take_frames<K: Shelf, D: Door<K>>(&mut self, door: &mut D, shelf: &mut K) -> Taken
+    pub(crate) fn take_frames<D: Door<K>>(&mut self, door: &mut D, shelf: &mut K) -> Taken
         requires serving { IsServing self.old.calls }
         requires empty { self.old.calls.pending ≡ [] }
         requires is_in { (D.view door.old).entered ≡ true }

@@ -3,17 +3,18 @@
 ghost use Rattle.std.specs.Prelude.{◌≡◌, ◌<◌, length, slice_get, Some, IfSome};
 ghost use Rattle.casd_connection.specs.Exchange.{place_in};
 
+use blob_store::Shelf;
 use live_calls::Place;
 
 /// A call that waits.
-#[derive(Debug, Drop)]
-pub(crate) struct Live {
+#[derive(Drop)]
+pub(crate) struct Live<P> {
     pub(crate) stream: u32,
-    pub(crate) place: Place,
+    pub(crate) place: P,
 }
 
 /// Where the call of a stream stands.
-pub(crate) fn place_in(live: &[Live], stream: u32) -> Option<usize>
+pub(crate) fn place_in<K: Shelf>(live: &[Live<Place<K>>], stream: u32) -> Option<usize>
     ensures place { result ≡ place_in stream live.now }
     ensures within { IfSome result (λ i. i < length live.now) }
 {

@@ -5,8 +5,9 @@ ghost use Rattle.blob_store.specs.View.{View, Leaves, own_now};
 ghost use Rattle.blob_store.specs.Shelves.{Shelved};
 ghost use Rattle.casd_connection.specs.Linked.{Linked, linked};
 ghost use Rattle.h2_frames.specs.Stream.{rest_place};
-ghost use Rattle.casd_connection.specs.Steps.{IsServing};
-ghost use Rattle.casd_connection.specs.Stands.{state, fresh_state, IsReady, Stands, IsSettledAt, Ran, Settles, ReadsOn, Flushes, TakesIn, write_end, end_of as end_of_taken, is_out as is_out_of, end_at};
+ghost use Rattle.casd_connection.specs.Exchange.{IsDue};
+ghost use Rattle.casd_connection.specs.Steps.{at, due_in, IsServing};
+ghost use Rattle.casd_connection.specs.Stands.{state, fresh_state, IsReady, Stands, IsSettledAt, Ran, TakesAll, IsTakenAt, Settles, ReadsOn, Flushes, TakesIn, write_end, end_of as end_of_taken, is_out as is_out_of, end_at};
 ghost use Rattle.casd_connection.specs.Writes.{ReadsBytes, MeetsEnd, FailsToRead};
 ghost use Rattle.proto_wire.specs.Reading.{IsBytes};
 ghost use Rattle.casd_connection.specs.Written.{Serves};
@@ -14,7 +15,7 @@ ghost use Rattle.casd_connection.specs.declared.end.ConnEnd.TheVariants as ends;
 
 use crate::connection::Connection;
 use crate::end::ConnEnd;
-use crate::frames::Taken;
+use crate::frames::{MANY_TURNS, Taken};
 use crate::report::ConnReport;
 use crate::write::write_all;
 use blob_store::{Door, Shelf};
@@ -31,15 +32,15 @@ const MAX_READ: u64 = 1 << 50;
 
 /// What a connection keeps: its calls, its buffer, and how many bytes it has read and written.
 #[derive(Drop)]
-struct Serving {
-    connection: Connection,
+struct Serving<K: Shelf> {
+    connection: Connection<K>,
     buffer: Vec<u8>,
     read: u64,
     written: u64,
 }
 
 /// A connection that has read nothing yet.
-fn begin(alloc: Global) -> Result<Serving, OutOfMemory>
+fn begin<K: Shelf>(alloc: Global) -> Result<Serving<K>, OutOfMemory>
     ensures state { IfOk result (λ s. state s.connection.calls s.connection.live.items s.connection.over s.read s.written ≡ fresh_state) }
     ensures buffer { IfOk result (λ s. length s.buffer.items ≡ 65_536) }
 {
@@ -50,6 +51,7 @@ fn begin(alloc: Global) -> Result<Serving, OutOfMemory>
             calls: Calls::server(alloc)?,
             live: Vec::new(alloc),
             over: false,
+            turn: 0,
         },
         buffer,
         read: 0,
@@ -58,8 +60,9 @@ fn begin(alloc: Global) -> Result<Serving, OutOfMemory>
 }
 
 /// Writes the output that is due, and answers the end if that can't be done.
-fn flush<L: Link>(serving: &mut Serving, link: &mut L) -> Option<ConnEnd>
+fn flush<K: Shelf, L: Link>(serving: &mut Serving<K>, link: &mut L) -> Option<ConnEnd>
     ensures flushes { Flushes result (linked (L.left link.old) (L.written link.old) (L.read_faults link.old) (L.write_faults link.old) (L.sent link.old) (L.at_end link.old)) (linked (L.left link.new) (L.written link.new) (L.read_faults link.new) (L.write_faults link.new) (L.sent link.new) (L.at_end link.new)) (state serving.old.connection.calls serving.old.connection.live.items serving.old.connection.over serving.old.read serving.old.written) (state serving.new.connection.calls serving.new.connection.live.items serving.new.connection.over serving.new.read serving.new.written) }
+    ensures live { serving.new.connection.live.items ≡ serving.old.connection.live.items }
     ensures buffer { serving.new.buffer.items ≡ serving.old.buffer.items }
 {
     let output = serving.connection.calls.take_output();
@@ -102,15 +105,15 @@ fn is_out(taken: Taken) -> bool
     }
 }
 
-/// Does and writes all that the input so far calls for, and answers the end if it brings one.
-fn settle<K: Shelf, D: Door<K>, L: Link>(
-    serving: &mut Serving,
+/// Does and writes all that the frames so far call for, and answers the end if they bring one.
+fn take_all<K: Shelf, D: Door<K>, L: Link>(
+    serving: &mut Serving<K>,
     door: &mut D,
     shelf: &mut K,
     link: &mut L,
 ) -> Option<ConnEnd>
     requires ready { IsReady (state serving.old.connection.calls serving.old.connection.live.items serving.old.connection.over serving.old.read serving.old.written) (D.view door.old) }
-    ensures settles { (v : View) (x : Shelved) (a : Linked) → Stands v (D.view door.old) x (K.shelved shelf.old) a (linked (L.left link.old) (L.written link.old) (L.read_faults link.old) (L.write_faults link.old) (L.sent link.old) (L.at_end link.old)) (state serving.old.connection.calls serving.old.connection.live.items serving.old.connection.over serving.old.read serving.old.written) → Settles result v (D.view door.new) x (K.shelved shelf.new) a (linked (L.left link.new) (L.written link.new) (L.read_faults link.new) (L.write_faults link.new) (L.sent link.new) (L.at_end link.new)) (state serving.new.connection.calls serving.new.connection.live.items serving.new.connection.over serving.new.read serving.new.written) }
+    ensures takes { (v : View) (x : Shelved) (a : Linked) → Stands v (D.view door.old) x (K.shelved shelf.old) a (linked (L.left link.old) (L.written link.old) (L.read_faults link.old) (L.write_faults link.old) (L.sent link.old) (L.at_end link.old)) (state serving.old.connection.calls serving.old.connection.live.items serving.old.connection.over serving.old.read serving.old.written) → TakesAll result v (D.view door.new) x (K.shelved shelf.new) a (linked (L.left link.new) (L.written link.new) (L.read_faults link.new) (L.write_faults link.new) (L.sent link.new) (L.at_end link.new)) (state serving.new.connection.calls serving.new.connection.live.items serving.new.connection.over serving.new.read serving.new.written) }
     ensures ready { result ≡ None → IsReady (state serving.new.connection.calls serving.new.connection.live.items serving.new.connection.over serving.new.read serving.new.written) (D.view door.new) }
     ensures is_in { (D.view door.new).entered ≡ true }
     ensures turns { 2 ^ 29 ≤ (D.view door.new).left }
@@ -124,6 +127,82 @@ fn settle<K: Shelf, D: Door<K>, L: Link>(
     match flush(serving, link) {
         None => end_of(taken),
         Some(end) => Some(end),
+    }
+}
+
+/// Has the call of a row give its next response, and writes it, unless the door has too few turns left. It answers the end if it
+/// can't be done.
+fn give<K: Shelf, D: Door<K>, L: Link>(
+    serving: &mut Serving<K>,
+    door: &mut D,
+    shelf: &mut K,
+    link: &mut L,
+    row: usize,
+) -> Option<ConnEnd>
+    requires ready { IsReady (state serving.old.connection.calls serving.old.connection.live.items serving.old.connection.over serving.old.read serving.old.written) (D.view door.old) }
+    requires due { IsDue (at serving.old.connection.calls serving.old.connection.live.items serving.old.connection.over []) row }
+    ensures takes { (v : View) (x : Shelved) (a : Linked) → IsTakenAt v (D.view door.old) x (K.shelved shelf.old) a (linked (L.left link.old) (L.written link.old) (L.read_faults link.old) (L.write_faults link.old) (L.sent link.old) (L.at_end link.old)) (state serving.old.connection.calls serving.old.connection.live.items serving.old.connection.over serving.old.read serving.old.written) → TakesAll result v (D.view door.new) x (K.shelved shelf.new) a (linked (L.left link.new) (L.written link.new) (L.read_faults link.new) (L.write_faults link.new) (L.sent link.new) (L.at_end link.new)) (state serving.new.connection.calls serving.new.connection.live.items serving.new.connection.over serving.new.read serving.new.written) }
+    ensures ready { result ≡ None → IsReady (state serving.new.connection.calls serving.new.connection.live.items serving.new.connection.over serving.new.read serving.new.written) (D.view door.new) }
+    ensures less { result ≡ None → due_in serving.new.connection.live.items < due_in serving.old.connection.live.items }
+    ensures is_in { (D.view door.new).entered ≡ true }
+    ensures turns { 2 ^ 29 ≤ (D.view door.new).left }
+    ensures buffer { serving.new.buffer.items ≡ serving.old.buffer.items }
+    ensures read { serving.new.read ≡ serving.old.read }
+{
+    if door.left() < MANY_TURNS {
+        return Some(ConnEnd::Spent);
+    }
+    match serving.connection.wake(door, shelf, row) {
+        Ok(()) => flush(serving, link),
+        Err(OutOfMemory) => Some(ConnEnd::OutOfMemory),
+    }
+}
+
+/// Has the calls that give responses of their own accord give them, in turns, as the windows allow, and answers the end if that
+/// brings one.
+fn give_all<K: Shelf, D: Door<K>, L: Link>(
+    serving: &mut Serving<K>,
+    door: &mut D,
+    shelf: &mut K,
+    link: &mut L,
+) -> Option<ConnEnd>
+    requires ready { IsReady (state serving.old.connection.calls serving.old.connection.live.items serving.old.connection.over serving.old.read serving.old.written) (D.view door.old) }
+    ensures settles { (v : View) (x : Shelved) (a : Linked) → IsTakenAt v (D.view door.old) x (K.shelved shelf.old) a (linked (L.left link.old) (L.written link.old) (L.read_faults link.old) (L.write_faults link.old) (L.sent link.old) (L.at_end link.old)) (state serving.old.connection.calls serving.old.connection.live.items serving.old.connection.over serving.old.read serving.old.written) → Settles result v (D.view door.new) x (K.shelved shelf.new) a (linked (L.left link.new) (L.written link.new) (L.read_faults link.new) (L.write_faults link.new) (L.sent link.new) (L.at_end link.new)) (state serving.new.connection.calls serving.new.connection.live.items serving.new.connection.over serving.new.read serving.new.written) }
+    ensures ready { result ≡ None → IsReady (state serving.new.connection.calls serving.new.connection.live.items serving.new.connection.over serving.new.read serving.new.written) (D.view door.new) }
+    ensures is_in { (D.view door.new).entered ≡ true }
+    ensures turns { 2 ^ 29 ≤ (D.view door.new).left }
+    ensures buffer { serving.new.buffer.items ≡ serving.old.buffer.items }
+    ensures read { serving.new.read ≡ serving.old.read }
+{
+    'turns: loop {
+        match serving.connection.next_due() {
+            Some(row) => match give(serving, door, shelf, link, row) {
+                Some(end) => return Some(end),
+                None => {}
+            },
+            None => return None,
+        }
+    }
+}
+
+/// Does and writes all that the input so far calls for, and answers the end if it brings one.
+fn settle<K: Shelf, D: Door<K>, L: Link>(
+    serving: &mut Serving<K>,
+    door: &mut D,
+    shelf: &mut K,
+    link: &mut L,
+) -> Option<ConnEnd>
+    requires ready { IsReady (state serving.old.connection.calls serving.old.connection.live.items serving.old.connection.over serving.old.read serving.old.written) (D.view door.old) }
+    ensures settles { (v : View) (x : Shelved) (a : Linked) → Stands v (D.view door.old) x (K.shelved shelf.old) a (linked (L.left link.old) (L.written link.old) (L.read_faults link.old) (L.write_faults link.old) (L.sent link.old) (L.at_end link.old)) (state serving.old.connection.calls serving.old.connection.live.items serving.old.connection.over serving.old.read serving.old.written) → Settles result v (D.view door.new) x (K.shelved shelf.new) a (linked (L.left link.new) (L.written link.new) (L.read_faults link.new) (L.write_faults link.new) (L.sent link.new) (L.at_end link.new)) (state serving.new.connection.calls serving.new.connection.live.items serving.new.connection.over serving.new.read serving.new.written) }
+    ensures ready { result ≡ None → IsReady (state serving.new.connection.calls serving.new.connection.live.items serving.new.connection.over serving.new.read serving.new.written) (D.view door.new) }
+    ensures is_in { (D.view door.new).entered ≡ true }
+    ensures turns { 2 ^ 29 ≤ (D.view door.new).left }
+    ensures buffer { serving.new.buffer.items ≡ serving.old.buffer.items }
+    ensures read { serving.new.read ≡ serving.old.read }
+{
+    match take_all(serving, door, shelf, link) {
+        Some(end) => Some(end),
+        None => give_all(serving, door, shelf, link),
     }
 }
 
@@ -151,7 +230,7 @@ fn read_front<L: Link>(link: &mut L, buffer: &mut [u8], most: usize) -> Result<u
 }
 
 /// Feeds bytes that were read, and answers the end if there is no memory for them.
-fn take_in(serving: &mut Serving, len: usize) -> Option<ConnEnd>
+fn take_in<K: Shelf>(serving: &mut Serving<K>, len: usize) -> Option<ConnEnd>
     requires within { len ≤ length serving.old.buffer.items }
     requires small { len ≤ 65_536 }
     requires fed { serving.old.connection.calls.reader.at + length serving.old.connection.calls.reader.rest ≡ serving.old.read }
@@ -170,7 +249,7 @@ fn take_in(serving: &mut Serving, len: usize) -> Option<ConnEnd>
 }
 
 /// Reads the next bytes, and answers the end if there are none.
-fn read<L: Link>(serving: &mut Serving, link: &mut L) -> Option<ConnEnd>
+fn read<K: Shelf, L: Link>(serving: &mut Serving<K>, link: &mut L) -> Option<ConnEnd>
     requires buffer { length serving.old.buffer.items ≡ 65_536 }
     requires fed { serving.old.connection.calls.reader.at + length serving.old.connection.calls.reader.rest ≡ serving.old.read }
     requires few { serving.old.read ≤ 2 ^ 50 }
@@ -195,7 +274,7 @@ fn read<L: Link>(serving: &mut Serving, link: &mut L) -> Option<ConnEnd>
 
 /// Settles what is due and reads on, until the connection ends.
 fn run<K: Shelf, D: Door<K>, L: Link>(
-    serving: &mut Serving,
+    serving: &mut Serving<K>,
     door: &mut D,
     shelf: &mut K,
     link: &mut L,
@@ -220,7 +299,7 @@ fn run<K: Shelf, D: Door<K>, L: Link>(
 
 /// Serves the calls of an owner who has come, who then goes.
 fn serve_owner<K: Shelf, D: Door<K>, L: Link>(
-    serving: &mut Serving,
+    serving: &mut Serving<K>,
     door: &mut D,
     shelf: &mut K,
     link: &mut L,
@@ -250,7 +329,7 @@ pub fn serve_connection<K: Shelf, D: Door<K>, L: Link>(
     requires turns { 2 ^ 41 ≤ (D.view door.old).left }
     ensures { Serves result (D.view door.old) (D.view door.new) (K.shelved shelf.old) (K.shelved shelf.new) (linked (L.left link.old) (L.written link.old) (L.read_faults link.old) (L.write_faults link.old) (L.sent link.old) (L.at_end link.old)) (linked (L.left link.new) (L.written link.new) (L.read_faults link.new) (L.write_faults link.new) (L.sent link.new) (L.at_end link.new)) }
 {
-    let Ok(mut serving) = begin(alloc) else {
+    let Ok(mut serving) = begin::<K>(alloc) else {
         return unserved();
     };
     let before = door.made();

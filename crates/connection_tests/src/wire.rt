@@ -80,9 +80,9 @@ pub(crate) const NO_MESSAGE: &[u8] =
 pub(crate) const ASKS_UNKNOWN: &[u8] =
     b"\0\0\x1b\x01\x04\0\0\0\x01\x83\x86\x04\x04/a/B\x0f\x10\x10application/grpc";
 
-/// HEADERS of ByteStream's Read on stream 1.
+/// HEADERS of ByteStream's Write on stream 1.
 pub(crate) const ASKS_UNBUILT: &[u8] =
-    b"\0\0\x39\x01\x04\0\0\0\x01\x83\x86\x04\x22/google.bytestream.ByteStream/Read\x0f\x10\x10application/grpc";
+    b"\0\0\x3a\x01\x04\0\0\0\x01\x83\x86\x04\x23/google.bytestream.ByteStream/Write\x0f\x10\x10application/grpc";
 
 /// Trailers with status 12.
 pub(crate) const NOT_BUILT: &[u8] =

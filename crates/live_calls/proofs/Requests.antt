@@ -8,8 +8,12 @@ use Rattle.cas_messages.specs.declared.blobs.BatchUpdateBlobsRequestItem2.{Batch
 use Rattle.cas_messages.specs.declared.blobs.FindMissingBlobsRequest.{FindMissingBlobsRequest}
 use Rattle.cas_messages.specs.declared.blobs.BatchReadBlobsRequest.{BatchReadBlobsRequest}
 use Rattle.cas_messages.specs.Meaning.{message_in}
-use Rattle.cas_messages.specs.Tables.{batch_update_blobs_request, batch_update_blobs_request_item2, find_missing_blobs_request, batch_read_blobs_request}
+use Rattle.cas_messages.specs.Tables.{batch_update_blobs_request, batch_update_blobs_request_item2, find_missing_blobs_request, batch_read_blobs_request, read_request, query_write_status_request}
 use Rattle.cas_messages.specs.Table.{Value, ◌&◌}
+use Rattle.cas_messages.specs.declared.byte_stream.ReadRequest.{ReadRequest}
+use Rattle.cas_messages.specs.declared.byte_stream.QueryWriteStatusRequest.{QueryWriteStatusRequest}
+use Rattle.byte_stream.specs.Read.{read_request_of, read_request_in}
+use Rattle.byte_stream.specs.Query.{query_request_of, query_request_in}
 use Rattle.cas_calls.specs.Limits.{read_as}
 use Rattle.cas_calls.specs.Update.{Update, item_of, update_of, update_in, update_view}
 use Rattle.cas_calls.specs.Find.{find_of, find_in, find_view}
@@ -56,3 +60,19 @@ batch_read_value r = r.instance_name & r.digests & r.acceptable_compressors & r.
 pub batch_read_viewed : (r : Result BatchReadBlobsRequest MessageError) (message : List ℕ) → Gives batch_read_value r (message_in batch_read_blobs_request message) → Gives batch_read_view r (batch_read_in message)
 unfolding batch_read_in
 batch_read_viewed r message h = viewed_as batch_read_value batch_read_of batch_read_view r (message_in batch_read_blobs_request message) (λ a. refl) h
+
+-- ---- ByteStream
+
+abbrev pub read_request_value : ReadRequest → Value read_request
+read_request_value r = r.resource_name & r.read_offset & r.read_limit & tt
+
+pub read_request_viewed : (r : Result ReadRequest MessageError) (message : List ℕ) → Gives read_request_value r (message_in read_request message) → Gives (λ (q : ReadRequest). q) r (read_request_in message)
+unfolding read_request_in
+read_request_viewed r message h = viewed_as read_request_value read_request_of (λ (q : ReadRequest). q) r (message_in read_request message) (λ a. refl) h
+
+abbrev pub query_value : QueryWriteStatusRequest → Value query_write_status_request
+query_value r = r.resource_name & tt
+
+pub query_viewed : (r : Result QueryWriteStatusRequest MessageError) (message : List ℕ) → Gives query_value r (message_in query_write_status_request message) → Gives (λ (q : QueryWriteStatusRequest). q) r (query_request_in message)
+unfolding query_request_in
+query_viewed r message h = viewed_as query_value query_request_of (λ (q : QueryWriteStatusRequest). q) r (message_in query_write_status_request message) (λ a. refl) h

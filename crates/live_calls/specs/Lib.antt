@@ -1,3 +1,5 @@
 pub mod Methods
+pub mod Places
 pub mod Turns
+pub mod Afterwards
 pub mod Replied

@@ -10,10 +10,12 @@ abbrev pub path_of : Method → List ℕ
 path_of methods.FindMissingBlobs = codes "/build.bazel.remote.execution.v2.ContentAddressableStorage/FindMissingBlobs"
 path_of methods.BatchUpdateBlobs = codes "/build.bazel.remote.execution.v2.ContentAddressableStorage/BatchUpdateBlobs"
 path_of methods.BatchReadBlobs = codes "/build.bazel.remote.execution.v2.ContentAddressableStorage/BatchReadBlobs"
+path_of methods.Read = codes "/google.bytestream.ByteStream/Read"
+path_of methods.QueryWriteStatus = codes "/google.bytestream.ByteStream/QueryWriteStatus"
 path_of methods.GetCapabilities = codes "/build.bazel.remote.execution.v2.Capabilities/GetCapabilities"
 
 abbrev pub all_methods : List Method
-all_methods = methods.FindMissingBlobs ∷ methods.BatchUpdateBlobs ∷ methods.BatchReadBlobs ∷ methods.GetCapabilities ∷ []
+all_methods = methods.FindMissingBlobs ∷ methods.BatchUpdateBlobs ∷ methods.BatchReadBlobs ∷ methods.Read ∷ methods.QueryWriteStatus ∷ methods.GetCapabilities ∷ []
 
 -- the method of a path, if it is one that is served
 unfoldable pub method_of : List ℕ → Option Method
@@ -22,9 +24,7 @@ method_of path = find (λ m. pointwise nat_eq (path_of m) path) all_methods
 abbrev pub unbuilt_paths : List (List ℕ)
 unbuilt_paths =
     codes "/build.bazel.remote.execution.v2.ContentAddressableStorage/GetTree" ∷
-    codes "/google.bytestream.ByteStream/Read" ∷
     codes "/google.bytestream.ByteStream/Write" ∷
-    codes "/google.bytestream.ByteStream/QueryWriteStatus" ∷
     codes "/build.buildgrid.LocalContentAddressableStorage/FetchMissingBlobs" ∷
     codes "/build.buildgrid.LocalContentAddressableStorage/UploadMissingBlobs" ∷
     codes "/build.buildgrid.LocalContentAddressableStorage/FetchTree" ∷

@@ -5,6 +5,6 @@ use Rattle.cas_calls.specs.Statuses.{fine, out_of_memory}
 use Rattle.live_calls.specs.declared.outcome.Outcome.{Outcome}
 use Rattle.live_calls.specs.declared.outcome.Outcome.TheVariants as outcomes
 
-abbrev pub replied_by : Result (List ℕ) OutOfMemory → Outcome
+abbrev pub replied_by : {P : Type 0} → Result (List ℕ) OutOfMemory → Outcome P
 replied_by (Ok message) = outcomes.Finishes (Some message) fine
 replied_by (Err e) = outcomes.Finishes None out_of_memory

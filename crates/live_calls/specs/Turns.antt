@@ -15,12 +15,15 @@ use Rattle.cas_calls.specs.Update.{Update, Answered, update_in, update_script, r
 use Rattle.cas_calls.specs.Capable.{capabilities_spelled}
 use Rattle.cas_calls.specs.Find as find
 use Rattle.cas_calls.specs.BatchRead as batch
+use Rattle.cas_messages.specs.declared.byte_stream.ReadRequest.{ReadRequest}
+use Rattle.cas_messages.specs.declared.byte_stream.QueryWriteStatusRequest.{QueryWriteStatusRequest}
+use Rattle.byte_stream.specs.Read.{Opened, Turned, ReadState, read_request_in, begin_script, next_script, response_spelled as read_spelled}
+use Rattle.byte_stream.specs.Query.{Answered as Queried, query_script, query_request_in, response_spelled as progress_spelled}
 use Rattle.live_calls.specs.declared.method.Method.{Method}
 use Rattle.live_calls.specs.declared.method.Method.TheVariants as methods
 use Rattle.live_calls.specs.declared.place.Messages.{Messages}
 use Rattle.live_calls.specs.declared.place.Messages.TheVariants as messages
-use Rattle.live_calls.specs.declared.place.Place.{Place}
-use Rattle.live_calls.specs.declared.place.Place.TheVariants as places
+use Rattle.live_calls.specs.Places.{Waiting, Unary, Reading, Away}
 use Rattle.live_calls.specs.declared.happening.Happening.{Happening}
 use Rattle.live_calls.specs.declared.happening.Happening.TheVariants as happenings
 use Rattle.live_calls.specs.declared.outcome.Outcome.{Outcome}
@@ -28,11 +31,15 @@ use Rattle.live_calls.specs.declared.outcome.Outcome.TheVariants as outcomes
 use Rattle.live_calls.specs.Methods.{method_of, is_unbuilt}
 
 -- how a turn of a call ends
+abbrev pub Ending : Type 0
+Ending = Outcome Waiting
+
+-- a turn of a call
 abbrev pub Turn : Type 0
-Turn = Script Outcome
+Turn = Script Ending
 
 -- it waits
-abbrev pub waits : Place → Turn
+abbrev pub waits : Waiting → Turn
 waits place = End (outcomes.Rests place)
 
 -- it is refused
@@ -55,7 +62,7 @@ no_method path = record { code = code.Unimplemented; text = if is_unbuilt path t
 
 abbrev pub begun_by : List ℕ → Option Method → Turn
 begun_by path None = refused (no_method path)
-begun_by path (Some method) = waits (places.Unary method messages.Nothing)
+begun_by path (Some method) = waits (Unary method messages.Nothing)
 
 abbrev pub begun : List ℕ → Turn
 begun path = begun_by path (method_of path)
@@ -108,10 +115,38 @@ read_by (Ok r) = and_then (batch.batch_read_script r) given
 abbrev pub read_turn : List ℕ → Turn
 read_turn message = Room wanting (read_by (batch.batch_read_in message))
 
+-- a Read that has begun, or hasn't
+abbrev pub opened : Opened → Turn
+opened (Ok s) = waits (Reading s)
+opened (Err status) = refused status
+
+abbrev pub open_by : Result ReadRequest MessageError → Turn
+open_by (Err fault) = refused (fault_status fault)
+open_by (Ok r) = and_then (begin_script r) opened
+
+-- Read
+abbrev pub open_turn : List ℕ → Turn
+open_turn message = Room wanting (open_by (read_request_in message))
+
+-- how much was written, or a status
+abbrev pub queried : Queried → Turn
+queried (Ok answer) = Room wanting (replied (progress_spelled answer))
+queried (Err status) = refused status
+
+abbrev pub query_by : Result QueryWriteStatusRequest MessageError → Turn
+query_by (Err fault) = refused (fault_status fault)
+query_by (Ok r) = and_then (query_script r.resource_name) queried
+
+-- QueryWriteStatus
+abbrev pub query_turn : List ℕ → Turn
+query_turn message = Room wanting (query_by (query_request_in message))
+
 abbrev pub answered_with : Method → List ℕ → Turn
 answered_with methods.FindMissingBlobs message = find_turn message
 answered_with methods.BatchUpdateBlobs message = update_turn message
 answered_with methods.BatchReadBlobs message = read_turn message
+answered_with methods.Read message = open_turn message
+answered_with methods.QueryWriteStatus message = query_turn message
 answered_with methods.GetCapabilities message = capable_turn message
 
 -- a unary call takes one message
@@ -129,15 +164,31 @@ one_more message (messages.One other) = messages.Many
 one_more message messages.Many = messages.Many
 
 abbrev pub unary_turn : Method → Messages → Happening → Turn
-unary_turn method ms (happenings.Message message) = waits (places.Unary method (one_more message ms))
+unary_turn method ms (happenings.Message message) = waits (Unary method (one_more message ms))
 unary_turn method ms happenings.HalfClosed = answered method ms
 unary_turn method ms happenings.Cancelled = End outcomes.Vanishes
 unary_turn method ms (happenings.Broken status) = refused status
+unary_turn method ms happenings.Woken = waits (Unary method ms)
 
-abbrev pub turn_at : Place → Happening → Turn
-turn_at (places.Unary method ms) happening = unary_turn method ms happening
-turn_at places.Away happening = End outcomes.Vanishes
+-- the next response of a Read, its end, or a status
+abbrev pub gone_on : Turned → Turn
+gone_on (Ok None) = End (outcomes.Finishes None fine)
+gone_on (Ok (Some given)) = Room wanting (End (outcomes.Gives (read_spelled given.0) (Reading given.1)))
+gone_on (Err status) = refused status
+
+-- A Read gives a response when it is its turn. Nothing more is expected of the peer.
+abbrev pub reading_turn : ReadState → Happening → Turn
+reading_turn s happenings.Woken = and_then (next_script s) gone_on
+reading_turn s (happenings.Message message) = waits (Reading s)
+reading_turn s happenings.HalfClosed = waits (Reading s)
+reading_turn s happenings.Cancelled = End outcomes.Vanishes
+reading_turn s (happenings.Broken status) = refused status
+
+abbrev pub turn_at : Waiting → Happening → Turn
+turn_at (Unary method ms) happening = unary_turn method ms happening
+turn_at (Reading s) happening = reading_turn s happening
+turn_at Away happening = End outcomes.Vanishes
 
 -- a turn that makes no entry and leaves the shelf alone
-abbrev pub Ends : Turn → Outcome → Type 0
+abbrev pub Ends : Turn → Ending → Type 0
 Ends turn outcome = (v : View) (x : Shelved) → IsIn v → Plays turn v v x x 0 outcome

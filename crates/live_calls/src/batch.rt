@@ -8,6 +8,7 @@ ghost use Rattle.cas_calls.specs.Update.{update_view, update_in, answered as ans
 ghost use Rattle.live_calls.specs.Turns.{wanting, update_by, update_turn};
 
 use crate::outcome::{Outcome, refuse, reply};
+use crate::place::Place;
 use blob_store::{Door, Shelf};
 use cas_calls::{batch_update, fault_status, out_of_memory};
 use cas_messages::{BatchUpdateBlobsRequest, BatchUpdateBlobsResponse, Message, MessageError};
@@ -29,7 +30,7 @@ fn update<K: Shelf, D: Door<K>>(
     door: &mut D,
     shelf: &mut K,
     request: &BatchUpdateBlobsRequest,
-) -> Outcome
+) -> Outcome<Place<K>>
     requires is_in { (D.view door.old).entered ≡ true }
     requires turns { 2 ^ 30 ≤ (D.view door.old).left }
     ensures { Plays (Room wanting (update_by (Ok (update_view request.now)))) (D.view door.old) (D.view door.new) (K.shelved shelf.old) (K.shelved shelf.new) (2 ^ 22) result }
@@ -50,7 +51,7 @@ pub(crate) fn answer<K: Shelf, D: Door<K>>(
     door: &mut D,
     shelf: &mut K,
     message: &[u8],
-) -> Outcome
+) -> Outcome<Place<K>>
     requires is_in { (D.view door.old).entered ≡ true }
     requires turns { 2 ^ 30 ≤ (D.view door.old).left }
     ensures { Plays (update_turn message.now) (D.view door.old) (D.view door.new) (K.shelved shelf.old) (K.shelved shelf.new) (2 ^ 22) result }

@@ -5,6 +5,8 @@ ghost use Rattle.cas_calls.specs.Capable.{capabilities_spelled};
 ghost use Rattle.live_calls.specs.Turns.{capable_turn, Ends};
 
 use crate::outcome::{Outcome, refuse, reply};
+use crate::place::Place;
+use blob_store::Shelf;
 use cas_calls::{capabilities, fault_status};
 use cas_messages::{GetCapabilitiesRequest, Message};
 use proto_wire::{Bytes, OutOfMemory};
@@ -21,7 +23,7 @@ fn spell(alloc: Global, request: &GetCapabilitiesRequest) -> Result<Bytes, OutOf
 }
 
 /// Answers the message of a call.
-pub(crate) fn answer(alloc: Global, message: &[u8]) -> Outcome
+pub(crate) fn answer<K: Shelf>(alloc: Global, message: &[u8]) -> Outcome<Place<K>>
     ensures { Ends (capable_turn message.now) result }
 {
     match GetCapabilitiesRequest::read(alloc, message) {

@@ -9,6 +9,7 @@ ghost use Rattle.cas_calls.specs.Find.{find_view, find_in};
 ghost use Rattle.live_calls.specs.Turns.{wanting, find_by, find_turn};
 
 use crate::outcome::{Outcome, refuse, reply};
+use crate::place::Place;
 use blob_store::{Door, Shelf};
 use cas_calls::{fault_status, find_missing, out_of_memory};
 use cas_messages::{FindMissingBlobsRequest, FindMissingBlobsResponse, Message, MessageError};
@@ -29,7 +30,7 @@ fn find<K: Shelf, D: Door<K>>(
     alloc: Global,
     door: &mut D,
     request: &FindMissingBlobsRequest,
-) -> Outcome
+) -> Outcome<Place<K>>
     requires is_in { (D.view door.old).entered ≡ true }
     requires turns { 2 ^ 30 ≤ (D.view door.old).left }
     ensures { (x : Shelved) → Plays (Room wanting (find_by (Ok (find_view request.now)))) (D.view door.old) (D.view door.new) x x (2 ^ 22) result }
@@ -45,7 +46,11 @@ fn find<K: Shelf, D: Door<K>>(
 }
 
 /// Answers the message of a call.
-pub(crate) fn answer<K: Shelf, D: Door<K>>(alloc: Global, door: &mut D, message: &[u8]) -> Outcome
+pub(crate) fn answer<K: Shelf, D: Door<K>>(
+    alloc: Global,
+    door: &mut D,
+    message: &[u8],
+) -> Outcome<Place<K>>
     requires is_in { (D.view door.old).entered ≡ true }
     requires turns { 2 ^ 30 ≤ (D.view door.old).left }
     ensures { (x : Shelved) → Plays (find_turn message.now) (D.view door.old) (D.view door.new) x x (2 ^ 22) result }

@@ -12,4 +12,6 @@ pub enum Happening {
     Cancelled,
     /// Its messages are malformed.
     Broken(Status),
+    /// It may give its next response.
+    Woken,
 }

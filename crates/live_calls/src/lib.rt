@@ -9,7 +9,9 @@ mod happening;
 mod method;
 mod outcome;
 mod place;
+mod query;
 mod read;
+mod stream_read;
 mod turn;
 
 pub use happening::Happening;

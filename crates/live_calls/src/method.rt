@@ -5,19 +5,23 @@ ghost use Rattle.std.specs.List.{list_any};
 ghost use Rattle.std.specs.Cmp.Lexicographic.{pointwise};
 ghost use Rattle.live_calls.specs.Methods.{path_of, method_of, is_unbuilt};
 
-/// A method that is served. All are unary.
+/// A method that is served. All take one message.
 #[derive(Clone, Copy, Debug, PartialEq, Eq)]
 pub enum Method {
     FindMissingBlobs,
     BatchUpdateBlobs,
     BatchReadBlobs,
+    Read,
+    QueryWriteStatus,
     GetCapabilities,
 }
 
-const METHODS: [Method; 4] = [
+const METHODS: [Method; 6] = [
     Method::FindMissingBlobs,
     Method::BatchUpdateBlobs,
     Method::BatchReadBlobs,
+    Method::Read,
+    Method::QueryWriteStatus,
     Method::GetCapabilities,
 ];
 
@@ -36,6 +40,8 @@ impl Method {
             Method::BatchReadBlobs => {
                 "/build.bazel.remote.execution.v2.ContentAddressableStorage/BatchReadBlobs"
             }
+            Method::Read => "/google.bytestream.ByteStream/Read",
+            Method::QueryWriteStatus => "/google.bytestream.ByteStream/QueryWriteStatus",
             Method::GetCapabilities => {
                 "/build.bazel.remote.execution.v2.Capabilities/GetCapabilities"
             }
@@ -55,11 +61,9 @@ impl Method {
 }
 
 /// The paths of the methods that are not served yet.
-const UNBUILT: [&str; 11] = [
+const UNBUILT: [&str; 9] = [
     "/build.bazel.remote.execution.v2.ContentAddressableStorage/GetTree",
-    "/google.bytestream.ByteStream/Read",
     "/google.bytestream.ByteStream/Write",
-    "/google.bytestream.ByteStream/QueryWriteStatus",
     "/build.buildgrid.LocalContentAddressableStorage/FetchMissingBlobs",
     "/build.buildgrid.LocalContentAddressableStorage/UploadMissingBlobs",
     "/build.buildgrid.LocalContentAddressableStorage/FetchTree",

@@ -8,6 +8,7 @@ ghost use Rattle.cas_calls.specs.BatchRead.{batch_read_view, batch_read_in};
 ghost use Rattle.live_calls.specs.Turns.{wanting, read_by, read_turn};
 
 use crate::outcome::{Outcome, refuse, reply};
+use crate::place::Place;
 use blob_store::{Door, Shelf};
 use cas_calls::{batch_read, fault_status, out_of_memory};
 use cas_messages::{BatchReadBlobsRequest, BatchReadBlobsResponse, Message, MessageError};
@@ -29,7 +30,7 @@ fn serve<K: Shelf, D: Door<K>>(
     door: &mut D,
     shelf: &mut K,
     request: &BatchReadBlobsRequest,
-) -> Outcome
+) -> Outcome<Place<K>>
     requires is_in { (D.view door.old).entered ≡ true }
     requires turns { 2 ^ 30 ≤ (D.view door.old).left }
     ensures { Plays (Room wanting (read_by (Ok (batch_read_view request.now)))) (D.view door.old) (D.view door.new) (K.shelved shelf.old) (K.shelved shelf.new) (2 ^ 22) result }
@@ -50,7 +51,7 @@ pub(crate) fn answer<K: Shelf, D: Door<K>>(
     door: &mut D,
     shelf: &mut K,
     message: &[u8],
-) -> Outcome
+) -> Outcome<Place<K>>
     requires is_in { (D.view door.old).entered ≡ true }
     requires turns { 2 ^ 30 ≤ (D.view door.old).left }
     ensures { Plays (read_turn message.now) (D.view door.old) (D.view door.new) (K.shelved shelf.old) (K.shelved shelf.new) (2 ^ 22) result }

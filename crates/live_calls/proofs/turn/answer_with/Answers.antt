@@ -9,3 +9,6 @@ returns-in-GetCapabilities g c =
 
 pub returns-in-FindMissingBlobs : goal.returns-in-FindMissingBlobs
 returns-in-FindMissingBlobs g c = rw c.in-FindMissingBlobs.is (c.answer.ensures (g.K.Shelf.shelved c.args.shelf.now))
+
+pub returns-in-QueryWriteStatus : goal.returns-in-QueryWriteStatus
+returns-in-QueryWriteStatus g c = rw c.in-QueryWriteStatus.is (c.answer-in-QueryWriteStatus.ensures (g.K.Shelf.shelved c.args.shelf.now))
