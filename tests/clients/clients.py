@@ -66,8 +66,72 @@ def large_batches(daemon):
     assert rex.given(call(daemon.target, rex.CAS + "BatchReadBlobs", rex.read([blob]))) == [(blob, OK)]
 
 
+def pieces(channel, name, offset=0, limit=0):
+    """The responses of a Read."""
+    return [rex.piece(r) for r in channel.unary_stream(rex.BYTES + "Read")(rex.read_from(name, offset, limit), timeout=60)]
+
+
+def refused_read(daemon, name, offset=0, limit=0):
+    with grpc.insecure_channel(daemon.target) as channel:
+        try:
+            pieces(channel, name, offset, limit)
+        except grpc.RpcError as e:
+            return e.code(), e.details()
+    return grpc.StatusCode.OK, ""
+
+
+LARGE = os.urandom(3_500_000)
+
+
+def reads(daemon):
+    assert rex.updated(call(daemon.target, rex.CAS + "BatchUpdateBlobs", rex.update([(LARGE, LARGE)]))) == [OK]
+    name = "blobs/" + rex.named(LARGE)
+    with grpc.insecure_channel(daemon.target) as channel:
+        whole = pieces(channel, name)
+        assert [len(p) for p in whole] == [1_048_576, 1_048_576, 1_048_576, 354_272] and b"".join(whole) == LARGE
+        assert pieces(channel, "an/instance/" + name, 1_000_000, 1_500_000) == [LARGE[1_000_000:2_048_576], LARGE[2_048_576:2_500_000]]
+        assert pieces(channel, name, 3_499_999) == [LARGE[-1:]]
+        assert pieces(channel, name, 3_500_000) == []
+        assert pieces(channel, name, 1, 1) == [LARGE[1:2]]
+        assert pieces(channel, "blobs/" + rex.named(b"")) == []
+    absent = rex.named(b"absent")
+    assert refused_read(daemon, "blobs/" + absent) == (grpc.StatusCode.NOT_FOUND, "not here " + absent)
+    assert refused_read(daemon, "blob/" + absent) == (grpc.StatusCode.INVALID_ARGUMENT, "bad name")
+    assert refused_read(daemon, name, 3_500_001) == (grpc.StatusCode.OUT_OF_RANGE, "bad offset")
+    assert refused_read(daemon, name, 0, 2 ** 64 - 1) == (grpc.StatusCode.INVALID_ARGUMENT, "bad limit")
+    assert refused_read(daemon, name.replace("blobs/", "compressed-blobs/zstd/"))[0] == grpc.StatusCode.UNIMPLEMENTED
+
+
+def reads_at_once(daemon):
+    name = "blobs/" + rex.named(LARGE)
+    with grpc.insecure_channel(daemon.target) as channel:
+        read = channel.unary_stream(rex.BYTES + "Read")
+        calls = [read(rex.read_from(name), timeout=60) for _ in range(40)]
+        for answers in zip(*calls):
+            assert len(set(answers)) == 1
+        assert all(c.code() == grpc.StatusCode.OK for c in calls)
+
+
+def a_read_is_cancelled(daemon):
+    name = "blobs/" + rex.named(LARGE)
+    with grpc.insecure_channel(daemon.target) as channel:
+        for _ in range(20):
+            answers = channel.unary_stream(rex.BYTES + "Read")(rex.read_from(name), timeout=60)
+            assert rex.piece(next(answers)) == LARGE[:1_048_576]
+            answers.cancel()
+        assert b"".join(pieces(channel, name)) == LARGE
+
+
+def writes_that_are_complete(daemon):
+    write = "uploads/00000000-0000-0000-0000-000000000001/blobs/"
+    answer = call(daemon.target, rex.BYTES + "QueryWriteStatus", rex.field(1, (write + rex.named(LARGE)).encode()))
+    assert (rex.get(answer, 1, 0), rex.get(answer, 2, 0)) == (len(LARGE), 1)
+    assert refusal(daemon.target, rex.BYTES + "QueryWriteStatus", rex.field(1, (write + rex.named(b"absent")).encode())) == grpc.StatusCode.NOT_FOUND
+
+
 def unknown_methods(daemon):
-    assert refusal(daemon.target, rex.CAS + "Unknown", b"") == grpc.StatusCode.UNIMPLEMENTED
+    for path in (rex.CAS + "Unknown", rex.CAS + "GetTree", rex.BYTES + "Write"):
+        assert refusal(daemon.target, path, b"") == grpc.StatusCode.UNIMPLEMENTED
 
 
 def bad_messages(daemon):
@@ -75,7 +139,9 @@ def bad_messages(daemon):
 
 
 def late(target):
-    assert refusal(target, rex.CAS + "FindMissingBlobs", rex.find(blobs("late", 1000)), 0.00001) == grpc.StatusCode.DEADLINE_EXCEEDED
+    # A call may be answered before the C core looks at its deadline.
+    codes = {refusal(target, rex.CAS + "FindMissingBlobs", rex.find(blobs("late", 1000)), 0.00001) for _ in range(20)}
+    assert grpc.StatusCode.DEADLINE_EXCEEDED in codes and codes <= {grpc.StatusCode.DEADLINE_EXCEEDED, grpc.StatusCode.OK}, codes
 
 
 def deadlines(daemon):
@@ -223,7 +289,10 @@ FAULTS = {
 def faults(daemon):
     for name, (offend, code) in FAULTS.items():
         peer = Peer(daemon)
-        offend(peer)
+        try:
+            offend(peer)
+        except BrokenPipe:
+            pass  # the daemon has ended the connection at the first part
         assert peer.code() == code, name
         capabilities(daemon)
 
@@ -305,7 +374,7 @@ def found_again(daemon, place):
     assert status == 0 and f"rows {rows} " in out, (status, out)
 
 
-TESTS = [capabilities, batches, other_bytes_are_refused, large_batches, unknown_methods, bad_messages, deadlines, eight_processes, many_calls_of_one_channel, h2load, curl, faults, wrong_preface, rapid_reset,
+TESTS = [capabilities, batches, other_bytes_are_refused, large_batches, reads, reads_at_once, a_read_is_cancelled, writes_that_are_complete, unknown_methods, bad_messages, deadlines, eight_processes, many_calls_of_one_channel, h2load, curl, faults, wrong_preface, rapid_reset,
          ("a flood of PING", flood(6, b"\0" * 8)), ("a flood of SETTINGS", flood(4, b"")), continuations, header_bomb, one_daemon_a_socket]
 
 

@@ -2,6 +2,7 @@
 import hashlib
 
 CAS = "/build.bazel.remote.execution.v2.ContentAddressableStorage/"
+BYTES = "/google.bytestream.ByteStream/"
 CAPABILITIES = "/build.bazel.remote.execution.v2.Capabilities/GetCapabilities"
 
 
@@ -76,3 +77,13 @@ def read(contents):
 def given(response):
     """The bytes and the status code of each blob of a read's response."""
     return [(get(value, 2), get(get(value, 3), 1, 0)) for number, value in fields(response) if number == 1]
+
+
+def read_from(name, offset=0, limit=0):
+    """A ByteStream Read of a resource, from an offset and of at most so many bytes."""
+    return field(1, name.encode()) + field(2, offset) + field(3, limit)
+
+
+def piece(response):
+    """The bytes of a Read's response."""
+    return get(response, 10)
